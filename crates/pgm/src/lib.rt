@@ -1,0 +1,7 @@
+// Raw PGM: a file read as its picture, or refused with its first fault.
+
+mod bytes;
+pub mod faults;
+mod machine;
+pub mod picture;
+mod reader;
