@@ -2,4 +2,5 @@ pub mod Bytes
 pub mod Classes
 pub mod Grammar
 pub mod Machine
+pub mod Numbers
 pub mod Reading

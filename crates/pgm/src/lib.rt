@@ -2,6 +2,7 @@
 
 mod bytes;
 pub mod faults;
+pub mod file;
 mod machine;
 pub mod picture;
 mod reader;
