@@ -24,7 +24,7 @@ use Rattle.pgm.specs.Grammar.Short.{nothing, in-mark, after-mark as short-mark
 use Rattle.pgm.specs.Grammar.Fault.{no-P as fault-P, no-5 as fault-5, after-mark as fault-mark, in-gap as fault-gap, after-number as fault-behind, number as fault-number, early, missing, extra, tone}
 use Rattle.pgm.specs.Reading.{Reading, Reads, One-reading}
 use Rattle.pgm.specs.Reading.Reading.{Shows, Faulty}
-use Rattle.pgm.specs.Machine.{taken, runs, after, marked, gapped, numbered, commented, closed, moved-on, within-limits, limit, grown, closing, outcome, final, First-above, Unsampled}
+use Rattle.pgm.specs.Machine.{taken, runs, after, marked, gapped, numbered, commented, closed, moved-on, number, within-limits, limit, grown, closing, outcome, final, First-above, Unsampled}
 use Rattle.pgm.specs.declared.bytes.Class.{Class}
 use Rattle.pgm.specs.declared.bytes.Class.the-variants.{Line, Blank, Digit, Hash, Letter, Other}
 use Rattle.pgm.specs.declared.faults.HeaderFault.{HeaderFault}
@@ -133,15 +133,15 @@ gap-run k a _ ready (one-comment {g} {c} b gs r l) =
     let q : a ++ ((g ++ 35 ∷ c) ++ b ∷ []) ≡ ((a ++ g) ++ 35 ∷ c) ++ b ∷ [] = simp append-assoc in
     ap run q ∙ run-push ((a ++ g) ++ 35 ∷ c) b (Comment k) (comment-run k a g c (gap-run k a g ready gs) r) ∙ at-line k b (sort b) l
 
-digits-run : (k : Known) (bs d : List ℕ) (v : ℕ) → run bs ≡ Gap k → Digits d v → run (bs ++ d) ≡ Number k (length bs) (min v 1025)
+digits-run : (k : Known) (bs d : List ℕ) (v : ℕ) → run bs ≡ Gap k → Digits d v → run (bs ++ d) ≡ number k (length bs) (min v 1025)
 digits-run k bs _ _ e (one-digit b d) =
     let v : b - 48 ≡ min (b - 48) 1025 = grind (arith, tells) in
-    run-push bs b (Gap k) e ∙ ap (gapped k (length bs)) (at-digit b (sort b) d) ∙ ap (Number k (length bs)) v
+    run-push bs b (Gap k) e ∙ ap (gapped k (length bs)) (at-digit b (sort b) d) ∙ ap (number k (length bs)) v
 digits-run k bs _ _ e (more-digits {d} {v} b ds n) =
     ap run (sym (append-assoc bs d (b ∷ [])))
-    ∙ run-push (bs ++ d) b (Number k (length bs) (min v 1025)) (digits-run k bs d v e ds)
+    ∙ run-push (bs ++ d) b (number k (length bs) (min v 1025)) (digits-run k bs d v e ds)
     ∙ ap (numbered k (length bs) (min v 1025) (length (bs ++ d))) (at-digit b (sort b) n)
-    ∙ ap (Number k (length bs)) (held-more v (min v 1025) (b - 48) refl)
+    ∙ ap (number k (length bs)) (held-more v (min v 1025) (b - 48) refl)
 
 -- a number within its limits
 kept : (k : Known) (v : ℕ) → Within (most k) v → (min v 1025 ≡ v) × (within-limits k v ≡ true)
@@ -149,17 +149,17 @@ kept k v i =
     let m = most-below k in let l = limit-most k in let p = i .0 in let q = i .1 in (grind (arith, tells), grind (arith, tells))
 
 field-run : (k : Known) (v : ℕ) (bs : List ℕ) → ((a : List ℕ) → Upto k a → Ready k a) → (f : Field (Upto k) (most k) v bs) →
-    run bs ≡ Number k (length (f .before ++ f .gap)) v
+    run bs ≡ number k (length (f .before ++ f .gap)) v
 field-run k v bs ready f =
     ap run (f .whole)
     ∙ digits-run k (f .before ++ f .gap) (f .digits) v (gap-run k (f .before) (f .gap) (ready (f .before) (f .sound)) (f .gapped)) (f .number)
-    ∙ ap (Number k (length (f .before ++ f .gap))) (kept k v (f .within) .0)
+    ∙ ap (number k (length (f .before ++ f .gap))) (kept k v (f .within) .0)
 
 -- after a number within its limits and a byte that is no digit
 field-push : (k : Known) (v : ℕ) (bs : List ℕ) → ((a : List ℕ) → Upto k a → Ready k a) → Field (Upto k) (most k) v bs →
     (b : ℕ) → digit b ≡ false → run (bs ++ b ∷ []) ≡ cond (white b) (moved-on k v (length bs)) (Refused (Byte (length bs)))
 field-push k v bs ready f b n =
-    run-push bs b (Number k (length (f .before ++ f .gap)) v) (field-run k v bs ready f)
+    run-push bs b (number k (length (f .before ++ f .gap)) v) (field-run k v bs ready f)
     ∙ at-end k (length (f .before ++ f .gap)) v (length bs) b (sort b) n
     ∙ ap (λ t. cond t (cond (white b) (moved-on k v (length bs)) (Refused (Byte (length bs)))) (Refused (Number-fault (length (f .before ++ f .gap))))) (kept k v (f .within) .1)
 
@@ -211,7 +211,7 @@ short-found file (short-gap k a g u gs e) = at-last file (a ++ g) (Gap k) (gap-r
 short-found file (short-comment k a g c u gs r e) =
     at-last file ((a ++ g) ++ 35 ∷ c) (Comment k) (comment-run k a g c (gap-run k a g (ready-upto k a u) gs) r) e
 short-found file (short-number k v f) =
-    at-last file file (Number k (length (f .before ++ f .gap)) v) (field-run k v file (ready-upto k) f) refl
+    at-last file file (number k (length (f .before ++ f .gap)) v) (field-run k v file (ready-upto k) f) refl
     ∙ ap (λ t. Err (cond t (Early (length file)) (Number-fault (length (f .before ++ f .gap))))) (kept k v (f .within) .1)
 
 -- a number outside its limits, with no digit behind it
@@ -219,18 +219,18 @@ module _ (file : List ℕ) (k : Known) (v : ℕ) (a g d : List ℕ) (up : Upto k
   broken : within-limits k (min v 1025) ≡ false
   broken = elim (cases-bool (within-limits k (min v 1025))) [ inl t ↦ absurd (out (lawful k v (min v 1025) refl t .0)) | inr f ↦ f ]
 
-  so-far : run ((a ++ g) ++ d) ≡ Number k (length (a ++ g)) (min v 1025)
+  so-far : run ((a ++ g) ++ d) ≡ number k (length (a ++ g)) (min v 1025)
   so-far = digits-run k (a ++ g) d v (gap-run k a g (ready-upto k a up) gs) ds
 
   number-found : (rest : List ℕ) → No-digit rest → file ≡ ((a ++ g) ++ d) ++ rest → outcome file ≡ Err (Number-fault (length (a ++ g)))
   number-found [] n e =
-      at-last file ((a ++ g) ++ d) (Number k (length (a ++ g)) (min v 1025)) so-far (e ∙ append-nil ((a ++ g) ++ d))
+      at-last file ((a ++ g) ++ d) (number k (length (a ++ g)) (min v 1025)) so-far (e ∙ append-nil ((a ++ g) ++ d))
       ∙ ap (λ t. Err (cond t (Early (length file)) (Number-fault (length (a ++ g))))) broken
   number-found (b ∷ rest) n e =
       at-fault file (((a ++ g) ++ d) ++ b ∷ []) rest (Number-fault (length (a ++ g)))
-      (run-push ((a ++ g) ++ d) b (Number k (length (a ++ g)) (min v 1025)) so-far
-       ∙ at-end k (length (a ++ g)) (min v 1025) (length ((a ++ g) ++ d)) b (sort b) n
-       ∙ ap (λ t. cond t (cond (white b) (moved-on k (min v 1025) (length ((a ++ g) ++ d))) (Refused (Byte (length ((a ++ g) ++ d))))) (Refused (Number-fault (length (a ++ g))))) broken)
+      (run-push ((a ++ g) ++ d) b (number k (length (a ++ g)) (min v 1025)) so-far
+      ∙ at-end k (length (a ++ g)) (min v 1025) (length ((a ++ g) ++ d)) b (sort b) n
+      ∙ ap (λ t. cond t (cond (white b) (moved-on k (min v 1025) (length ((a ++ g) ++ d))) (Refused (Byte (length ((a ++ g) ++ d))))) (Refused (Number-fault (length (a ++ g))))) broken)
       (e ∙ sym (append-assoc ((a ++ g) ++ d) (b ∷ []) rest))
 
 -- a byte of the mark that is not the right one
@@ -293,13 +293,13 @@ told file _ (fault-mark b rest e n) = by-fault file (Byte 2) (at-fault file (80 
 told file _ (fault-gap k a g b rest u gs e w d n) =
     by-fault file (Byte (length (a ++ g)))
     (at-fault file ((a ++ g) ++ b ∷ []) rest (Byte (length (a ++ g)))
-     (run-push (a ++ g) b (Gap k) (gap-run k a g (ready-upto k a u) gs) ∙ at-nothing k (length (a ++ g)) b (sort b) w d n)
-     (e ∙ sym (append-assoc (a ++ g) (b ∷ []) rest)))
+    (run-push (a ++ g) b (Gap k) (gap-run k a g (ready-upto k a u) gs) ∙ at-nothing k (length (a ++ g)) b (sort b) w d n)
+    (e ∙ sym (append-assoc (a ++ g) (b ∷ []) rest)))
 told file _ (fault-behind k v a b rest f e w d) =
     by-fault file (Byte (length a))
     (at-fault file (a ++ b ∷ []) rest (Byte (length a))
-     (field-push k v a (ready-upto k) f b d ∙ ap (λ t. cond t (moved-on k v (length a)) (Refused (Byte (length a)))) w)
-     (e ∙ sym (append-assoc a (b ∷ []) rest)))
+    (field-push k v a (ready-upto k) f b d ∙ ap (λ t. cond t (moved-on k v (length a)) (Refused (Byte (length a)))) w)
+    (e ∙ sym (append-assoc a (b ∷ []) rest)))
 told file _ (fault-number k v a g d rest u gs ds e n out) =
     by-fault file (Number-fault (length (a ++ g))) (number-found file k v a g d u gs ds out rest n e)
 told file _ (early s) = by-fault file (Early (length file)) (short-found file s)
@@ -308,14 +308,19 @@ told file _ (missing w h m a rest f e n) =
 told file _ (extra w h m a rest f e n) =
     by-samples w h m file a rest f e (Faulty (Count (length a + w * h))) (inr (omega (arith, long w h m file a rest f e), refl))
 told file _ (tone w h m a rest i f e n l o b) =
-    by-samples w h m file a rest f e (Faulty (Sample (length a + i)))
-    (omega (arith, long w h m file a rest f e),
-     (i, refl, subst (λ xs. First-above m xs (Some i)) (sym (behind w h m file a rest f e)) (l, o, b)))
+    by-samples w h m file a rest f e (Faulty (Sample (length a + i))) (
+      omega (arith, long w h m file a rest f e),
+      (i, refl, subst (λ xs. First-above m xs (Some i)) (sym (behind w h m file a rest f e)) (l, o, b)),
+    )
 
 pub by : (file : List ℕ) (x : Reading) → Reads file x → By file (outcome file) x
 by file (Shows w h m samples) r =
-    by-samples w h m file (r .header) samples (r .sound) (r .whole) (Shows w h m samples)
-    (refl, refl, refl, sym (behind w h m file (r .header) samples (r .sound) (r .whole)),
-     omega (arith, long w h m file (r .header) samples (r .sound) (r .whole), r .count),
-     subst (λ xs. First-above m xs None) (sym (behind w h m file (r .header) samples (r .sound) (r .whole))) (r .tones))
+    by-samples w h m file (r .header) samples (r .sound) (r .whole) (Shows w h m samples) (
+      refl,
+      refl,
+      refl,
+      sym (behind w h m file (r .header) samples (r .sound) (r .whole)),
+      omega (arith, long w h m file (r .header) samples (r .sound) (r .whole), r .count),
+      subst (λ xs. First-above m xs None) (sym (behind w h m file (r .header) samples (r .sound) (r .whole))) (r .tones),
+    )
 by file (Faulty f) r = told file f r

@@ -26,8 +26,8 @@ use Rattle.pgm.proofs.Sound.{Behind, Found, found}
 first-one : (m : ℕ) (xs : List ℕ) (i j : ℕ) → First-above m xs (Some i) → First-above m xs (Some j) → i ≡ j
 first-one m xs i j p q =
     elim (cases-order i j) [
-      inl e ↦ e
-    | inr o ↦ elim o [ inl l ↦ omega (arith, q .2 i l, p .1) | inr l ↦ omega (arith, p .2 j l, q .1) ]
+      | inl e ↦ e
+      | inr o ↦ elim o [ inl l ↦ omega (arith, q .2 i l, p .1) | inr l ↦ omega (arith, p .2 j l, q .1) ]
     ]
 
 judged-one : (file : List ℕ) (h : Header) (x y : Reading) → Judged file h x → Judged file h y → x ≡ y

@@ -74,7 +74,7 @@ pub record Behind (h : Header) (bs : List ℕ) : Type 0 where
 abbrev Stands : List ℕ → State → Type 0
 Stands bs Mark = (bs ≡ []) ⊎ ((bs ≡ 80 ∷ []) ⊎ (bs ≡ P5))
 Stands bs (Gap k) = In-gap k bs
-Stands bs (Number k first v) = In-number k first v bs
+Stands bs (Number n) = In-number (n .known) (n .first) (n .value) bs
 Stands bs (Comment k) = In-comment k bs
 Stands bs (Raster h) = Behind h bs
 Stands bs (Refused f) = (rest : List ℕ) → Fault (bs ++ rest) (In-header f)
@@ -234,8 +234,8 @@ step bs b Mark (inl e) = rw e (first-byte b (sort b))
 step bs b Mark (inr (inl e)) = rw e (second-byte b (sort b))
 step bs b Mark (inr (inr e)) = rw e (third-byte b (sort b))
 step bs b (Gap k) r = rw (r .whole) (gap-byte k (r .a) (r .g) (r .upto) (r .gapping) b (sort b))
-step bs b (Number k first v) r =
-    rw (r .whole, r .start) (number-byte k (r .a) (r .g) (r .d) (r .u) v (r .upto) (r .gapping) (r .digiting) (r .value) b (sort b))
+step bs b (Number n) r =
+    rw (r .whole, r .start) (number-byte (n .known) (r .a) (r .g) (r .d) (r .u) (n .value) (r .upto) (r .gapping) (r .digiting) (r .value) b (sort b))
 step bs b (Comment k) r = rw (r .whole) (comment-byte k (r .a) (r .g) (r .c) (r .upto) (r .gapping) (r .remarking) b (sort b))
 step bs b (Raster h) r =
     record { head = r .head; rest = r .rest ++ b ∷ []; whole = ap (λ x. x ++ b ∷ []) (r .whole) ∙ append-assoc (r .head) (r .rest) (b ∷ []); sound = r .sound; end = r .end }
@@ -259,11 +259,11 @@ found-by file Mark (inl e) = early (nothing e)
 found-by file Mark (inr (inl e)) = early (in-mark e)
 found-by file Mark (inr (inr e)) = early (short-mark e)
 found-by file (Gap k) r = early (short-gap k (r .a) (r .g) (r .upto) (r .gapping) (r .whole))
-found-by file (Number k first v) r =
-    cond-both (within-limits k v) (Early (length file)) (Number-fault first) (λ f. Fault file (In-header f))
-    (λ t. let p = lawful k (r .u) v (r .value) t in
-      early (short-number k v (rw (r .whole) (field k (r .a) (r .g) (r .d) (r .u) v (r .upto) (r .gapping) (r .digiting) (r .value) 0 (p .0) (p .1)))))
-    (λ t. rw (r .start) (fault-number k (r .u) (r .a) (r .g) (r .d) [] (r .upto) (r .gapping) (r .digiting) (r .whole ∙ sym (append-nil _)) tt (unlawful k (r .u) v (r .value) t)))
+found-by file (Number n) r =
+    cond-both (within-limits (n .known) (n .value)) (Early (length file)) (Number-fault (n .first)) (λ f. Fault file (In-header f))
+    (λ t. let p = lawful (n .known) (r .u) (n .value) (r .value) t in
+    early (short-number (n .known) (n .value) (rw (r .whole) (field (n .known) (r .a) (r .g) (r .d) (r .u) (n .value) (r .upto) (r .gapping) (r .digiting) (r .value) 0 (p .0) (p .1)))))
+    (λ t. rw (r .start) (fault-number (n .known) (r .u) (r .a) (r .g) (r .d) [] (r .upto) (r .gapping) (r .digiting) (r .whole ∙ sym (append-nil _)) tt (unlawful (n .known) (r .u) (n .value) (r .value) t)))
 found-by file (Comment k) r = early (short-comment k (r .a) (r .g) (r .c) (r .upto) (r .gapping) (r .remarking) (r .whole))
 found-by file (Raster h) r = r
 found-by file (Refused f) r = subst (λ x. Fault x (In-header f)) (append-nil file) (r [])

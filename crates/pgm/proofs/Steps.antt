@@ -28,7 +28,7 @@ use Rattle.pgm.specs.declared.machine.State.the-variants.{Mark, Gap, Number, C
 abbrev pub Ends : State → ℕ → Type 0
 Ends Mark n = Unit {0}
 Ends (Gap k) n = Unit {0}
-Ends (Number k first v) n = Unit {0}
+Ends (Number m) n = Unit {0}
 Ends (Comment k) n = Unit {0}
 Ends (Raster h) n = n ≡ h .end
 Ends (Refused f) n = Unit {0}
@@ -70,12 +70,12 @@ ends-after at (Digit d) (Gap k) e = tt
 ends-after at Hash (Gap k) e = tt
 ends-after at Letter (Gap k) e = tt
 ends-after at Other (Gap k) e = tt
-ends-after at Line (Number k first v) e = ends-closed k first v at true (within-limits k v)
-ends-after at Blank (Number k first v) e = ends-closed k first v at true (within-limits k v)
-ends-after at (Digit d) (Number k first v) e = tt
-ends-after at Hash (Number k first v) e = ends-closed k first v at false (within-limits k v)
-ends-after at Letter (Number k first v) e = ends-closed k first v at false (within-limits k v)
-ends-after at Other (Number k first v) e = ends-closed k first v at false (within-limits k v)
+ends-after at Line (Number m) e = ends-closed (m .known) (m .first) (m .value) at true (within-limits (m .known) (m .value))
+ends-after at Blank (Number m) e = ends-closed (m .known) (m .first) (m .value) at true (within-limits (m .known) (m .value))
+ends-after at (Digit d) (Number m) e = tt
+ends-after at Hash (Number m) e = ends-closed (m .known) (m .first) (m .value) at false (within-limits (m .known) (m .value))
+ends-after at Letter (Number m) e = ends-closed (m .known) (m .first) (m .value) at false (within-limits (m .known) (m .value))
+ends-after at Other (Number m) e = ends-closed (m .known) (m .first) (m .value) at false (within-limits (m .known) (m .value))
 ends-after at Line (Comment k) e = tt
 ends-after at Blank (Comment k) e = tt
 ends-after at (Digit d) (Comment k) e = tt
@@ -92,7 +92,7 @@ taken-final at b (Raster h) e = refl
 taken-final at b (Refused f) e = refl
 taken-final at b Mark e = absurd (false≢true e)
 taken-final at b (Gap k) e = absurd (false≢true e)
-taken-final at b (Number k first v) e = absurd (false≢true e)
+taken-final at b (Number m) e = absurd (false≢true e)
 taken-final at b (Comment k) e = absurd (false≢true e)
 
 pub runs-final : (s : State) (at : ℕ) (bs : List ℕ) → final s ≡ true → runs s at bs ≡ s
@@ -124,7 +124,7 @@ runs-stop R t n bs e f = sym (runs-final t n bs f) ∙ e
 pub closed-next : (r : Result Header HeaderFault) (s : State) (n len : ℕ) → r ≡ closing len s → Ends s n → Cases r (λ h. n ≡ h .end) (λ _. Unit {0})
 closed-next r Mark n len e f = rw e tt
 closed-next r (Gap k) n len e f = rw e tt
-closed-next r (Number k first v) n len e f = rw e tt
+closed-next r (Number m) n len e f = rw e tt
 closed-next r (Comment k) n len e f = rw e tt
 closed-next r (Raster h) n len e f = rw e f
 closed-next r (Refused g) n len e f = rw e tt
@@ -132,7 +132,7 @@ closed-next r (Refused g) n len e f = rw e tt
 pub ends-open : (s : State) (n : ℕ) → final s ≡ false → Ends s n
 ends-open Mark n e = tt
 ends-open (Gap k) n e = tt
-ends-open (Number k first v) n e = tt
+ends-open (Number m) n e = tt
 ends-open (Comment k) n e = tt
 ends-open (Raster h) n e = absurd (true≢false e)
 ends-open (Refused f) n e = absurd (true≢false e)

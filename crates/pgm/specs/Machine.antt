@@ -21,6 +21,7 @@ use Rattle.pgm.specs.declared.faults.FileFault.the-variants.{Header as Header-
 use Rattle.pgm.specs.declared.machine.Known.{Known}
 use Rattle.pgm.specs.declared.machine.Known.the-variants.{Nothing, Width, Size}
 use Rattle.pgm.specs.declared.machine.Header.{Header}
+use Rattle.pgm.specs.declared.machine.Numeral.{Numeral}
 use Rattle.pgm.specs.declared.machine.State.{State}
 use Rattle.pgm.specs.declared.machine.State.the-variants.{Mark, Gap, Number, Comment, Raster, Refused}
 
@@ -29,6 +30,13 @@ abbrev pub limit : Known → ℕ
 limit Nothing = 1024
 limit (Width w) = 256
 limit (Size w h) = 255
+
+abbrev pub a-numeral : Known → ℕ → ℕ → Numeral
+a-numeral k first v = record { known = k; first = first; value = v }
+
+-- in a number that begins at the byte first and has the value v so far
+abbrev pub number : Known → ℕ → ℕ → State
+number k first v = Number (a-numeral k first v)
 
 -- a number's value with one digit more, held above every limit
 abbrev pub grown : ℕ → ℕ → ℕ
@@ -82,7 +90,7 @@ closed k first v at white =
 abbrev pub gapped : Known → ℕ → Class → State
 gapped k at Line = Gap k
 gapped k at Blank = Gap k
-gapped k at (Digit d) = Number k at d
+gapped k at (Digit d) = number k at d
 gapped k at Hash = Comment k
 gapped k at Letter = Refused (Byte at)
 gapped k at Other = Refused (Byte at)
@@ -90,7 +98,7 @@ gapped k at Other = Refused (Byte at)
 abbrev pub numbered : Known → ℕ → ℕ → ℕ → Class → State
 numbered k first v at Line = closed k first v at true
 numbered k first v at Blank = closed k first v at true
-numbered k first v at (Digit d) = Number k first (grown v d)
+numbered k first v at (Digit d) = number k first (grown v d)
 numbered k first v at Hash = closed k first v at false
 numbered k first v at Letter = closed k first v at false
 numbered k first v at Other = closed k first v at false
@@ -107,7 +115,7 @@ commented k Other = Comment k
 abbrev pub after : ℕ → Class → State → State
 after at c Mark = marked at c
 after at c (Gap k) = gapped k at c
-after at c (Number k first v) = numbered k first v at c
+after at c (Number n) = numbered (n .known) (n .first) (n .value) at c
 after at c (Comment k) = commented k c
 after at c (Raster h) = Raster h
 after at c (Refused f) = Refused f
@@ -125,7 +133,7 @@ runs s at (b ∷ bs) = runs (taken at b s) (suc at) bs
 abbrev pub final : State → Bool
 final Mark = false
 final (Gap k) = false
-final (Number k first v) = false
+final (Number n) = false
 final (Comment k) = false
 final (Raster h) = true
 final (Refused f) = true
@@ -134,7 +142,7 @@ final (Refused f) = true
 abbrev pub closing : ℕ → State → Result Header HeaderFault
 closing n Mark = Err (Early n)
 closing n (Gap k) = Err (Early n)
-closing n (Number k first v) = Err (cond (within-limits k v) (Early n) (Number-fault first))
+closing n (Number m) = Err (cond (within-limits (m .known) (m .value)) (Early n) (Number-fault (m .first)))
 closing n (Comment k) = Err (Early n)
 closing n (Raster h) = Ok h
 closing n (Refused f) = Err f

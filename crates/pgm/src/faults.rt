@@ -45,7 +45,10 @@ impl HeaderFault {
         ensures { λ r. ⌜ r ≡ header-byte (now (self .entry)) ⌝ }
     {
         match self {
-            HeaderFault::Mark(at) | HeaderFault::Byte(at) | HeaderFault::Number(at) | HeaderFault::Early(at) => *at,
+            HeaderFault::Mark(at)
+            | HeaderFault::Byte(at)
+            | HeaderFault::Number(at)
+            | HeaderFault::Early(at) => *at,
         }
     }
 }

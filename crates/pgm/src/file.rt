@@ -1,7 +1,7 @@
 // A whole file: its header, and then its samples.
 
 ghost use mathlib.Core.Path.{_≡_};
-ghost use Rattle.pgm.specs.Reading.{Reading, Reads, reading};
+ghost use Rattle.pgm.specs.Reading.{One-reading, Reading, Reads, reading};
 use crate::faults::FileFault;
 use crate::faults::FileFaultFromHeader;
 use crate::picture::Picture;
@@ -10,6 +10,7 @@ use crate::reader::Reader;
 /// Reads a file as the picture that it is, or names its first fault.
 pub fn read(file: &[u8]) -> Result<Picture<'_>, FileFault>
     ensures answer { λ r. ⌜ Reads (now (file .entry)) (reading r) ⌝ }
+    ensures unambiguous { λ _. ⌜ One-reading ⌝ }
     ensures only { λ r. ⌜ ((other : Reading) → Reads (now (file .entry)) other → other ≡ reading r) ⌝ }
 {
     let mut reader = Reader::new(file);

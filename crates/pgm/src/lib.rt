@@ -6,3 +6,5 @@ pub mod file;
 mod machine;
 pub mod picture;
 mod reader;
+#[cfg(test)]
+mod tests;

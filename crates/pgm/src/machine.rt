@@ -3,7 +3,7 @@
 ghost use mathlib.Core.Path.{_≡_};
 ghost use mathlib.Core.Bool.{Bool};
 ghost use Prim.Native.Nat.{ℕ, _+_, _<_, _^_, _≤_};
-ghost use Rattle.pgm.specs.Machine.{after, marked, limit, grown, within-limits, closed, final, closing};
+ghost use Rattle.pgm.specs.Machine.{a-numeral, after, closed, closing, final, grown, limit, marked, within-limits};
 use crate::bytes::Class;
 use crate::faults::HeaderFault;
 
@@ -24,6 +24,17 @@ pub struct Header {
     pub end: usize,
 }
 
+/// A number that is being read.
+#[derive(Clone, Copy)]
+pub struct Numeral {
+    /// The numbers before it.
+    known: Known,
+    /// The byte of its first digit.
+    first: usize,
+    /// Its value so far, held above every limit.
+    value: u16,
+}
+
 /// Where in the header the bytes so far end.
 #[derive(Clone, Copy)]
 pub enum State {
@@ -31,8 +42,7 @@ pub enum State {
     Mark,
     /// In white space, with the numbers before it.
     Gap(Known),
-    /// In a number that begins at the byte `first`; a value above every limit is held.
-    Number { known: Known, first: usize, value: u16 },
+    Number(Numeral),
     Comment(Known),
     /// Behind the header.
     Raster(Header),
@@ -49,19 +59,11 @@ impl State {
             (State::Mark, class) => marked(at, class),
             (State::Gap(known), Class::Line | Class::Blank) => State::Gap(known),
             (State::Gap(known), Class::Hash) => State::Comment(known),
-            (State::Gap(known), Class::Digit(value)) => State::Number {
-                known,
-                first: at,
-                value: value as u16,
-            },
+            (State::Gap(known), Class::Digit(digit)) => State::Number(begun(known, at, digit)),
             (State::Gap(_), _) => State::Refused(HeaderFault::Byte(at)),
-            (State::Number { known, first, value }, Class::Digit(digit)) => State::Number {
-                known,
-                first,
-                value: grown(value, digit),
-            },
-            (State::Number { known, first, value }, Class::Line | Class::Blank) => closed(known, first, value, at, true),
-            (State::Number { known, first, value }, _) => closed(known, first, value, at, false),
+            (State::Number(numeral), Class::Digit(digit)) => State::Number(grown(numeral, digit)),
+            (State::Number(numeral), Class::Line | Class::Blank) => closed(numeral, at, true),
+            (State::Number(numeral), _) => closed(numeral, at, false),
             (State::Comment(known), Class::Line) => State::Gap(known),
             (State::Comment(known), _) => State::Comment(known),
             (State::Raster(header), _) => State::Raster(header),
@@ -86,11 +88,11 @@ impl State {
         match self {
             State::Raster(header) => Ok(header),
             State::Refused(fault) => Err(fault),
-            State::Number { known, first, value } => {
-                if within_limits(known, value) {
+            State::Number(numeral) => {
+                if within_limits(numeral) {
                     Err(HeaderFault::Early(len))
                 } else {
-                    Err(HeaderFault::Number(first))
+                    Err(HeaderFault::Number(numeral.first))
                 }
             }
             State::Mark | State::Gap(_) | State::Comment(_) => Err(HeaderFault::Early(len)),
@@ -112,40 +114,55 @@ fn marked(at: usize, class: Class) -> State
     }
 }
 
-/// A number's value with one digit more, held above every limit.
-fn grown(value: u16, digit: u8) -> u16
-    ensures { λ r. ⌜ r ≡ grown value digit ⌝ }
+/// A number at its first digit.
+fn begun(known: Known, first: usize, digit: u8) -> Numeral
+    ensures { λ r. ⌜ r ≡ a-numeral known first digit ⌝ }
 {
-    (value as u32 * 10 + digit as u32).min(1025) as u16
+    Numeral {
+        known,
+        first,
+        value: digit as u16,
+    }
+}
+
+/// A number with one digit more.
+fn grown(numeral: Numeral, digit: u8) -> Numeral
+    ensures { λ r. ⌜ r ≡ a-numeral (numeral .known) (numeral .first) (grown (numeral .value) digit) ⌝ }
+{
+    Numeral {
+        known: numeral.known,
+        first: numeral.first,
+        value: (numeral.value as u32 * 10 + digit as u32).min(1025) as u16,
+    }
 }
 
 /// After a number's last digit, at the byte behind it.
-fn closed(known: Known, first: usize, value: u16, at: usize, white: bool) -> State
+fn closed(numeral: Numeral, at: usize, white: bool) -> State
     requires { ⌜ at + 1 < 2 ^ 64 ⌝ }
-    ensures { λ r. ⌜ r ≡ closed known first value at white ⌝ }
+    ensures { λ r. ⌜ r ≡ closed (numeral .known) (numeral .first) (numeral .value) at white ⌝ }
 {
-    if !within_limits(known, value) {
-        return State::Refused(HeaderFault::Number(first));
+    if !within_limits(numeral) {
+        return State::Refused(HeaderFault::Number(numeral.first));
     }
     if !white {
         return State::Refused(HeaderFault::Byte(at));
     }
-    match known {
-        Known::Nothing => State::Gap(Known::Width(value)),
-        Known::Width(width) => State::Gap(Known::Size(width, value)),
+    match numeral.known {
+        Known::Nothing => State::Gap(Known::Width(numeral.value)),
+        Known::Width(width) => State::Gap(Known::Size(width, numeral.value)),
         Known::Size(width, height) => State::Raster(Header {
             width,
             height,
-            maxval: value as u8,
+            maxval: numeral.value as u8,
             end: at + 1,
         }),
     }
 }
 
-fn within_limits(known: Known, value: u16) -> bool
-    ensures { λ r. ⌜ r ≡ within-limits known value ⌝ }
+fn within_limits(numeral: Numeral) -> bool
+    ensures { λ r. ⌜ r ≡ within-limits (numeral .known) (numeral .value) ⌝ }
 {
-    1 <= value && value <= limit(known)
+    1 <= numeral.value && numeral.value <= limit(numeral.known)
 }
 
 /// The greatest value of the number that comes next.
