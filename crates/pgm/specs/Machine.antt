@@ -22,6 +22,8 @@ use Rattle.pgm.specs.declared.machine.Known.{Known}
 use Rattle.pgm.specs.declared.machine.Known.the-variants.{Nothing, Width, Size}
 use Rattle.pgm.specs.declared.machine.Header.{Header}
 use Rattle.pgm.specs.declared.machine.Numeral.{Numeral}
+use Rattle.pgm.specs.declared.reader.Judgement.{Judgement}
+use Rattle.pgm.specs.declared.reader.Judgement.the-variants.{Missing, Extra, Above, Sound}
 use Rattle.pgm.specs.declared.machine.State.{State}
 use Rattle.pgm.specs.declared.machine.State.the-variants.{Mark, Gap, Number, Comment, Raster, Refused}
 
@@ -160,6 +162,13 @@ Advanced file n (Some b) n′ = (n < length file) × (b ≡ getD file n 0) × (n
 abbrev pub First-above : ℕ → List ℕ → Option ℕ → Type 0
 First-above m xs None = (i : ℕ) → i < length xs → getD xs i 0 ≤ m
 First-above m xs (Some i) = (i < length xs) × (m < getD xs i 0) × ((j : ℕ) → j < i → getD xs j 0 ≤ m)
+
+-- how many samples there should be is count, and none should be above m
+abbrev pub Judged : List ℕ → ℕ → ℕ → Judgement → Type 0
+Judged xs count m Missing = length xs < count
+Judged xs count m Extra = count < length xs
+Judged xs count m (Above i) = (length xs ≡ count) × First-above m xs (Some i)
+Judged xs count m Sound = (length xs ≡ count) × First-above m xs None
 
 -- what is wrong with the samples, which begin at the byte n of a file
 abbrev pub Unsampled : List ℕ → ℕ → Header → FileFault → Type 0

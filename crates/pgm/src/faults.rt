@@ -84,9 +84,9 @@ impl FileFault {
 }
 
 pub impl From<HeaderFault> for FileFault as FileFaultFromHeader {
-    ghost converts = { λ fault r. r ≡ Header fault };
+    ghost converts = { λ header r. r ≡ Header header };
 
-    fn from(fault: HeaderFault) -> Self {
-        FileFault::Header(fault)
+    fn from(header: HeaderFault) -> Self {
+        FileFault::Header(header)
     }
 }

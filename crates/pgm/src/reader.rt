@@ -5,7 +5,7 @@ ghost use Prim.Native.Nat.{_*_, _≤_};
 ghost use denote.Ref.{now};
 ghost use lib.ListN.{length};
 ghost use Rattle.std.specs.Results.{Cases};
-ghost use Rattle.pgm.specs.Machine.{Advanced, First-above, Sampled, outcome};
+ghost use Rattle.pgm.specs.Machine.{Advanced, First-above, Judged, Sampled, outcome};
 use crate::bytes::Class;
 use crate::faults::FileFault;
 use crate::faults::HeaderFault;
@@ -65,16 +65,38 @@ impl<'a> Reader<'a> {
     {
         let rest = &self.file[self.next..];
         let count = area(header.width, header.height);
-        if rest.len() < count {
-            return Err(FileFault::Count(self.file.len()));
+        match judge(rest, count, header.maxval) {
+            Judgement::Missing => Err(FileFault::Count(self.file.len())),
+            Judgement::Extra => Err(FileFault::Count(self.next + count)),
+            Judgement::Above(i) => Err(FileFault::Sample(self.next + i)),
+            Judgement::Sound => Ok(rest),
         }
-        if rest.len() > count {
-            return Err(FileFault::Count(self.next + count));
-        }
-        match first_above(rest, header.maxval) {
-            Some(i) => Err(FileFault::Sample(self.next + i)),
-            None => Ok(rest),
-        }
+    }
+}
+
+/// What is right or wrong with the samples of a file.
+#[derive(Clone, Copy)]
+pub enum Judgement {
+    Missing,
+    Extra,
+    /// The first sample above maxval, where there are as many as there should be.
+    Above(usize),
+    Sound,
+}
+
+/// Judges the samples: first their count, then their tones.
+fn judge(samples: &[u8], count: usize, maxval: u8) -> Judgement
+    ensures { λ r. ⌜ Judged (now (samples .entry)) count maxval r ⌝ }
+{
+    if samples.len() < count {
+        return Judgement::Missing;
+    }
+    if samples.len() > count {
+        return Judgement::Extra;
+    }
+    match first_above(samples, maxval) {
+        Some(i) => Judgement::Above(i),
+        None => Judgement::Sound,
     }
 }
 

@@ -1,4 +1,4 @@
-use mathlib.Core.Path.{_≡_, refl, sym, ap, _∙_}
+use mathlib.Core.Path.{_≡_, refl, sym, ap, subst, _∙_}
 use Rattle.std.proofs.shelf.Results.{err-from-errBy}
 use Rattle.std.specs.declared.result.Result.the-variants.{Ok, Err}
 use Rattle.pgm.specs.Machine.{outcome}
@@ -33,4 +33,5 @@ returns c =
     let s = rw (c .in-Continue-header .ensures tt .next, file) at (c .in-Continue-samples .ensures tt) in
     let j = by-header (c .args .file .now) (Ok h) (Shows (h .width) (h .height) (h .maxval) (c .in-Continue-samples .samples .now)) e
     (refl, refl, refl, s .0, s .1, s .2) in
-    record { answer = reads _ _ j; unambiguous = one-reading; only = only _ _ j }
+    let k = subst (By (c .args .file .now) (outcome (c .args .file .now))) (sym (c .picture .ensures)) j in
+    record { answer = reads _ _ k; unambiguous = one-reading; only = only _ _ k }
