@@ -1,0 +1,9 @@
+pub mod Passing
+pub mod Spots
+pub mod Room
+pub mod Keeps
+pub mod Arrays
+pub mod Grid
+pub mod Members
+pub mod Elements
+pub mod Listed

@@ -1,0 +1,9 @@
+pub mod Places
+pub mod Lawful
+pub mod Refusals
+pub mod Placed
+pub mod Edits
+pub mod Shapes
+pub mod Reaches
+pub mod Drafts
+pub mod Recipes

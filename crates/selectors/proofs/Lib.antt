@@ -1,0 +1,9 @@
+pub mod Sums
+pub mod Ranks
+pub mod Tallies
+pub mod Weighing
+pub mod Narrowing
+pub mod Puts
+pub mod Keeping
+pub mod Climbing
+pub mod Medians

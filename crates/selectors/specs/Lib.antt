@@ -1,0 +1,6 @@
+pub mod Bag
+pub mod Calls
+pub mod Entries
+pub mod Median
+pub mod Tally
+pub mod Theorems

@@ -1,0 +1,4 @@
+pub mod Spans
+pub mod GreyLaws
+pub mod ReliefLaws
+pub mod ColourLaws
