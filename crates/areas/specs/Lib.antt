@@ -1,0 +1,5 @@
+pub mod Rects
+pub mod Areas
+pub mod Listed
+pub mod Meanings
+pub mod Arising

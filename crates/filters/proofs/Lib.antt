@@ -1,0 +1,12 @@
+pub mod Masses
+pub mod Ranks
+pub mod Windows
+pub mod Locality
+pub mod Monotony
+pub mod Vectors
+pub mod Counting
+pub mod Cuts
+pub mod Numbers
+pub mod Softness
+pub mod Overwriting
+pub mod Lines

@@ -1,0 +1,3 @@
+pub mod Orders
+pub mod Morphology
+pub mod Restaging

@@ -1,0 +1,4 @@
+pub mod Stages
+pub mod Planes
+pub mod Taps
+pub mod Rows

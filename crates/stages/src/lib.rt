@@ -1,0 +1,9 @@
+//! Soft erosion and dilation at every pixel, for every tone kind and selector.
+
+pub mod pixels;
+pub mod reading;
+pub mod rows;
+pub mod taps;
+#[cfg(test)]
+mod tests;
+pub mod window;
