@@ -1,21 +1,21 @@
 -- Dropping a row.
-use mathlib.Core.Path.{_≡_, refl, sym, ap, subst, _∙_}
-use mathlib.Core.Bool.{Bool, true, false, cond, _||_, _&&_}
+use mathlib.Core.Path.{_≡_, refl, sym, ap, subst}
+use mathlib.Core.Bool.{true, false}
 use mathlib.Core.List.{List, [], _∷_}
-use Prim.Native.Nat.{ℕ, zero, suc, _+_, _-_, _<_, _≤_}
+use Prim.Native.Nat.{ℕ, _+_, _-_, _<_}
 use native.Mathlib.Omega.{arith}
 use lib.Dec.{ltb}
 use mathlib.Core.Logic.{inl, inr}
-use lib.ListN.{length, getD, set}
+use lib.ListN.{getD}
 use Rattle.std.specs.declared.option.Option.{Option}
 use Rattle.std.specs.declared.option.Option.the-variants.{Some, None}
-use Rattle.std.proofs.shelf.Tests.{and-parts, cond-both, ltb-true, ltb-false, lt-ltb, cases-eq, cond-true}
+use Rattle.std.proofs.shelf.Tests.{and-parts, cond-both, ltb-true, ltb-false, lt-ltb, cases-eq}
 use Rattle.std.proofs.shelf.Lists.{getD-set-same, getD-set-other}
 use Rattle.planes.specs.declared.size.Size.{Size}
 use Rattle.areas.specs.declared.rect.Rect.{Rect}
-use Rattle.areas.specs.Rects.{Holds, Fits, fits, lessened}
+use Rattle.areas.specs.Rects.{Holds, fits, lessened}
 use Rattle.areas.specs.Areas.{Area, Stale, area-fits, on-card, dropped, rows, stale-rows, lowest-from, lowest, top-row, next-of}
-use Rattle.areas.specs.Meanings.{has-area, some-stale, area-of, Is-next, Next-is, Leaves}
+use Rattle.areas.specs.Meanings.{some-stale, Is-next, Next-is, Leaves}
 use Rattle.areas.proofs.Fitting.{fits-true, on-card-at}
 use Rattle.areas.proofs.Walks.{Lowest, lowest-is, lowest-nothing}
 

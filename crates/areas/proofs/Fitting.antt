@@ -1,12 +1,11 @@
 -- Rectangles and areas that lie on the card.
-use mathlib.Core.Path.{_≡_, refl, sym, ap, _∙_}
-use mathlib.Core.Bool.{Bool, true, false, cond, _&&_}
-use mathlib.Core.List.{List, [], _∷_, _++_, map}
-use Prim.Native.Nat.{ℕ, zero, suc, _+_, _-_, _<_, _≤_, max, min}
+use mathlib.Core.Path.{_≡_, refl}
+use mathlib.Core.Bool.{true}
+use mathlib.Core.List.{List, [], _∷_}
+use Prim.Native.Nat.{ℕ, zero, suc, _+_, _-_}
 use native.Mathlib.Omega.{arith}
-use lib.Dec.{leb, ltb}
-use lib.ListN.{length, getD, take, drop, set}
-use Rattle.std.specs.declared.option.Option.{Option}
+use lib.Dec.{ltb}
+use lib.ListN.{getD, set}
 use Rattle.std.specs.declared.option.Option.the-variants.{Some, None}
 use Rattle.std.proofs.shelf.Ways.{tells}
 use Rattle.std.proofs.shelf.Tests.{and-parts, and-from, cond-both, ltb-true}
@@ -14,7 +13,7 @@ use Rattle.planes.specs.declared.size.Size.{Size}
 use Rattle.planes.specs.Sizes.{Limits}
 use Rattle.recipes.specs.declared.recipe.Stage.{Stage}
 use Rattle.areas.specs.declared.rect.Rect.{Rect}
-use Rattle.areas.specs.Rects.{Fits, fits, whole, widened, joined, lessened, across, down}
+use Rattle.areas.specs.Rects.{Fits, fits, whole, widened, joined, lessened}
 use Rattle.areas.specs.Areas.{Area, area-fits, on-card, spread, all-stale, none-stale, dropped}
 
 pub fits-true : (size : Size) (r : Rect) → fits size r ≡ true → Fits size r

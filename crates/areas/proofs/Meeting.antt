@@ -1,16 +1,15 @@
 -- The first column of a piece that is stale.
-use mathlib.Core.Path.{_≡_, refl}
-use mathlib.Core.Bool.{Bool, true, false, cond, _&&_}
+use mathlib.Core.Path.{_≡_}
+use mathlib.Core.Bool.{Bool, true, false, _&&_}
 use Prim.Native.Nat.{ℕ, _+_, _<_, _≤_, max}
 use native.Mathlib.Omega.{arith}
 use lib.Dec.{leb, ltb}
-use Rattle.std.specs.declared.option.Option.{Option}
 use Rattle.std.specs.declared.option.Option.the-variants.{Some, None}
 use Rattle.std.proofs.shelf.Ways.{tells}
 use Rattle.std.proofs.shelf.Tests.{cond-both}
 use Rattle.areas.specs.declared.rect.Rect.{Rect}
 use Rattle.areas.specs.Rects.{Holds}
-use Rattle.areas.specs.Areas.{Area, Stale, met, Misses, Meets, First-met}
+use Rattle.areas.specs.Areas.{Area, met, First-met}
 
 -- the test of a piece
 abbrev meets : Rect → ℕ → ℕ → ℕ → Bool

@@ -1,21 +1,20 @@
 -- Areas that come about by the operations are nested, and the last one tells of all.
-use mathlib.Core.Path.{_≡_, refl, sym, ap, subst, _∙_}
-use mathlib.Core.Bool.{Bool, true, false, cond, _||_, _&&_}
-use mathlib.Core.List.{List, [], _∷_, map}
-use mathlib.Core.Logic.{_⊎_, inl, inr}
-use Prim.Native.Nat.{ℕ, suc, _+_, _<_, _≤_}
+use mathlib.Core.Path.{_≡_, refl, sym, _∙_}
+use mathlib.Core.Bool.{true}
+use mathlib.Core.List.{List, [], _∷_}
+use Prim.Native.Nat.{ℕ, _+_}
 use native.Mathlib.Omega.{arith}
 use lib.Dec.{ltb}
 use lib.ListN.{length}
 use Rattle.std.specs.declared.option.Option.the-variants.{Some, None}
 use Rattle.std.proofs.shelf.Lists.{length-map}
-use Rattle.std.proofs.shelf.Tests.{and-parts, cond-both, ltb-true, false≢true}
+use Rattle.std.proofs.shelf.Tests.{and-parts, cond-both, false≢true}
 use Rattle.planes.specs.declared.size.Size.{Size}
 use Rattle.planes.specs.Sizes.{Limits}
 use Rattle.recipes.specs.declared.recipe.Stage.{Stage}
 use Rattle.areas.specs.declared.rect.Rect.{Rect}
-use Rattle.areas.specs.Rects.{Holds, Fits, fits, Within, Near, widened, joined, whole, lessened}
-use Rattle.areas.specs.Areas.{Area, Stale, area-fits, on-card, spread, none-stale, all-stale, dropped, last-area}
+use Rattle.areas.specs.Rects.{Holds, Fits, fits, Near, widened, joined, whole, lessened}
+use Rattle.areas.specs.Areas.{Area, Stale, on-card, spread, none-stale, all-stale, dropped, last-area}
 use Rattle.areas.specs.Meanings.{has-area, some-stale}
 use Rattle.areas.specs.Arising.{Arises, Nested-on, Nested, Arising}
 use Rattle.areas.specs.Arising.Arises.{nothing, everything, written, redone}

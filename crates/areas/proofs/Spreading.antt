@@ -3,14 +3,14 @@ use mathlib.Core.Path.{_≡_, refl}
 use mathlib.Core.Bool.{true}
 use mathlib.Core.List.{List, [], _∷_}
 use mathlib.Core.Logic.{_⊎_, inl, inr}
-use Prim.Native.Nat.{ℕ, _+_, _-_, _<_, _≤_, max, min}
+use Prim.Native.Nat.{ℕ, _-_, _≤_, max, min}
 use native.Mathlib.Omega.{arith}
 use Rattle.std.specs.declared.option.Option.the-variants.{Some, None}
-use Rattle.std.proofs.shelf.Tests.{and-parts, cases-lt}
+use Rattle.std.proofs.shelf.Tests.{and-parts}
 use Rattle.planes.specs.declared.size.Size.{Size}
 use Rattle.recipes.specs.declared.recipe.Stage.{Stage}
 use Rattle.areas.specs.declared.rect.Rect.{Rect}
-use Rattle.areas.specs.Rects.{Holds, Fits, fits, Within, Near, Exactly, Smallest, across, down, widened, joined, hull}
+use Rattle.areas.specs.Rects.{Holds, Fits, Near, Exactly, Smallest, widened, joined, hull}
 use Rattle.areas.specs.Areas.{Area, Stale, area-fits, on-card, spread}
 use Rattle.areas.specs.Meanings.{Becomes, Spreads}
 use Rattle.areas.proofs.Fitting.{fits-true, widened-fits, joined-fits}

@@ -1,22 +1,20 @@
 -- Going through the areas, stage by stage.
-use mathlib.Core.Path.{_≡_, refl, sym, ap, subst, _∙_}
-use mathlib.Core.Bool.{Bool, true, false, cond, _&&_}
+use mathlib.Core.Path.{_≡_, refl, sym, ap, subst}
+use mathlib.Core.Bool.{true}
 use mathlib.Core.List.{List, [], _∷_, _++_, map}
-use Prim.Native.Nat.{ℕ, zero, suc, _+_, _-_, _*_, _<_, _≤_, max, min}
+use Prim.Native.Nat.{ℕ, zero, suc, _+_, _-_, _<_, _≤_, min}
 use native.Mathlib.Omega.{arith}
 use native.Mathlib.Numerals.{add-one}
 use mathlib.Core.Logic.{inl, inr}
-use lib.Dec.{leb, ltb}
 use lib.ListN.{length, getD, take, drop, set, replicate}
-use Rattle.std.specs.declared.option.Option.{Option}
 use Rattle.std.specs.declared.option.Option.the-variants.{Some, None}
-use Rattle.std.proofs.shelf.Lists.{append-assoc, take-more-set, drop-set-lt, at-drop-more, take-more, drop-more, drop-all, take-all, append-nil, take-append-drop}
+use Rattle.std.proofs.shelf.Lists.{drop-all, take-all, append-nil, take-append-drop}
 use Rattle.std.proofs.shelf.Tests.{cases-lt}
 use Rattle.planes.specs.declared.size.Size.{Size}
 use Rattle.recipes.specs.declared.recipe.Stage.{Stage}
 use Rattle.areas.specs.declared.rect.Rect.{Rect}
-use Rattle.areas.specs.Rects.{Fits, fits, widened, joined, lessened}
-use Rattle.areas.specs.Areas.{Area, area-fits, on-card, spread, dropped, rows, stale-rows, numbered, lowest-from, last-area}
+use Rattle.areas.specs.Rects.{Fits, widened, joined, lessened}
+use Rattle.areas.specs.Areas.{Area, area-fits, spread, dropped, rows, stale-rows, numbered, lowest-from, last-area}
 use Rattle.areas.proofs.Fitting.{fits-true, joined-fits, widened-fits}
 
 -- the first places of an array with one value in all

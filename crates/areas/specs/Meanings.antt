@@ -3,13 +3,12 @@ use mathlib.Core.Path.{_≡_}
 use mathlib.Core.Bool.{Bool, true, false, _||_}
 use mathlib.Core.List.{List, [], _∷_}
 use mathlib.Core.Logic.{_⊎_}
-use Prim.Native.Nat.{ℕ, _+_, _-_, _<_, _≤_}
+use Prim.Native.Nat.{ℕ, _-_, _<_, _≤_}
 use lib.ListN.{getD}
 use Rattle.std.specs.declared.option.Option.{Option}
 use Rattle.std.specs.declared.option.Option.the-variants.{Some, None}
 use Rattle.planes.specs.declared.size.Size.{Size}
 use Rattle.recipes.specs.declared.recipe.Stage.{Stage}
-use Rattle.areas.specs.declared.rect.Rect.{Rect}
 use Rattle.areas.specs.Rects.{Near, Smallest}
 use Rattle.areas.specs.Areas.{Area, Stale}
 

@@ -41,14 +41,17 @@ pub fn stage_plane<T: Tone, S: Selector>(
     ensures goes_with_cuts { λ _. ⌜ Goes-with-cuts (T·Tone .kind) ⌝ }
 {
     let from = size.start(j);
-    stage_rows::<T, S>(
-        selector,
-        &Window::of(stage),
-        size,
-        memory,
-        from,
-        from + size.area(),
-    );
+    let into = plane_after(size, from);
+    stage_rows::<T, S>(selector, &Window::of(stage), size, memory, from, into);
+}
+
+/// Where the plane after the one that begins at `from` begins.
+fn plane_after(size: Size, from: usize) -> usize
+    requires size { ⌜ Limits size ⌝ }
+    requires bound { ⌜ from ≤ 2359296 ⌝ }
+    ensures { λ r. ⌜ r ≡ from + area size ⌝ }
+{
+    from + size.area()
 }
 
 /// Makes every row of the plane that begins at `into` from the plane that begins at `from`.

@@ -1,6 +1,6 @@
 //! The size of a card, and where its planes and pixels lie in one long memory.
 
-ghost use Prim.Native.Nat.{_+_, _<_, _≤_};
+ghost use Prim.Native.Nat.{_+_, _*_, _<_, _≤_};
 ghost use Rattle.planes.specs.Sizes.{Limits, area, cell, start};
 ghost use mathlib.Core.Path.{_≡_};
 
@@ -18,7 +18,7 @@ impl Size {
         ensures value { λ r. ⌜ r ≡ area self ⌝ }
         ensures bound { λ r. ⌜ r ≤ 262144 ⌝ }
     {
-        self.width * self.height
+        times(self.width, self.height)
     }
 
     /// Where the plane `j` begins.
@@ -28,7 +28,7 @@ impl Size {
         ensures value { λ r. ⌜ r ≡ start self j ⌝ }
         ensures bound { λ r. ⌜ r ≤ 2359296 ⌝ }
     {
-        j * self.area()
+        times(j, self.area())
     }
 
     /// Where the pixel in column x and row y lies in its plane.
@@ -39,6 +39,23 @@ impl Size {
         ensures value { λ r. ⌜ r ≡ cell self x y ⌝ }
         ensures bound { λ r. ⌜ r < area self ⌝ }
     {
-        y * self.width + x
+        index(self.width, x, y)
     }
+}
+
+/// So many times another number, of numbers as small as sizes are.
+fn times(n: usize, m: usize) -> usize
+    requires { ⌜ n ≤ 1024 ⌝ ∗ ⌜ m ≤ 262144 ⌝ }
+    ensures { λ r. ⌜ r ≡ n * m ⌝ }
+{
+    let product = n * m;
+    product
+}
+
+/// Where the pixel in column x and row y lies in a plane of that width.
+fn index(width: usize, x: usize, y: usize) -> usize
+    requires { ⌜ width ≤ 1024 ⌝ ∗ ⌜ x ≤ 1024 ⌝ ∗ ⌜ y ≤ 256 ⌝ }
+    ensures { λ r. ⌜ r ≡ y * width + x ⌝ }
+{
+    y * width + x
 }

@@ -8,9 +8,6 @@ use lib.Dec.{eqb, ltb}
 use lib.IntN.{ℤ, pos, negsuc, negℤ, natAbs}
 use lib.ListN.{length, getD, take}
 use Rattle.std.specs.shelf.Lists.{Has, sumBy}
-use Rattle.std.specs.Results.{isOk}
-use Rattle.std.specs.declared.result.Result.{Result}
-use Rattle.std.specs.declared.result.Result.the-variants.{Ok, Err}
 use Rattle.std.proofs.shelf.Lists.{length-take}
 use Rattle.std.proofs.shelf.Tests.{and-parts, lt-ltb}
 use Rattle.std.proofs.shelf.Signed.{ints}
@@ -25,8 +22,6 @@ use Rattle.recipes.specs.Places.{core, origin, same, stands-at}
 use Rattle.recipes.proofs.Arrays.{length-placed}
 use Rattle.recipes.proofs.Elements.{centre, order-positive}
 use Rattle.selectors.specs.Bag.{below, held, Ranked}
-use Rattle.selectors.specs.Calls.{Selected}
-use Rattle.selectors.specs.declared.refusals.SelectRefusal.{SelectRefusal}
 use Rattle.selectors.proofs.Sums.{below-at, below-cut, below-same, held-same}
 use Rattle.selectors.proofs.Ranks.{ranked-one}
 use Rattle.tones.specs.Kind.{Kind, Laws}
@@ -88,7 +83,7 @@ module _ {T R : Type 0} (K : Kind T R) (law : Laws K) (size : Size) (s : Stage) 
     pub rank-most : rank K size s f x y ≤ total K size s f x y
     rank-most = rank-within (s .operation) (s .element .order) (total K size s f x y) (order-positive (s .element)) total-least
 
-    -- a selector that holds the window does not refuse the rank, and selects the code of the pixel's tone
+    -- a selector that holds the window has the rank, and ranks the code of the pixel's tone there
     module _ (w : ℕ → ℕ) (n t r : ℕ) (is : (c : ℕ) → w c ≡ bag K size s f x y c) (codes : K .count ≤ n) (whole : t ≡ below w n) (ranks : r ≡ rank-of (s .operation) (s .element .order) t) where
       pub total-is : t ≡ total K size s f x y
       total-is = whole ∙ below-same w (bag K size s f x y) n (λ c l. is c) ∙ total-range n codes
@@ -96,14 +91,12 @@ module _ {T R : Type 0} (K : Kind T R) (law : Laws K) (size : Size) (s : Stage) 
       pub rank-is : r ≡ rank K size s f x y
       rank-is = ranks ∙ ap (rank-of (s .operation) (s .element .order)) total-is
 
-      pub selected-ok : (a : Result ℕ SelectRefusal) → Selected w n r a → isOk a ≡ true
-      selected-ok (Ok c) h = refl
-      selected-ok (Err e) h = absurd (mathlib.Core.Logic.⊎-elim (λ (z : r ≡ 0). omega (arith, z, rank-is, rank-some)) (λ (z : below w n < r). omega (arith, z, whole, total-is, rank-is, rank-most)) (h .1))
+      pub rank-fits : (0 < r) × (r ≤ below w n)
+      rank-fits = (omega (arith, rank-is, rank-some), omega (arith, whole, total-is, rank-is, rank-most))
 
-      pub selected-cleaned : (a : Result ℕ SelectRefusal) (c : ℕ) → a ≡ Ok c → Selected w n r a → K .tone c ≡ cleaned K size s f x y
+      pub ranked-cleaned : (c : ℕ) → Ranked w r c → K .tone c ≡ cleaned K size s f x y
       unfolding cleaned
-      selected-cleaned a c e h =
+      ranked-cleaned c h =
           let b = bag K size s f x y in
-          let sel : Selected w n r (Ok c) = subst (Selected w n r) e h in
-          let mine : Ranked b (rank K size s f x y) c = subst (λ v. Ranked v (rank K size s f x y) c) (fun-ext is) (subst (λ q. Ranked w q c) rank-is (sel .2)) in
+          let mine : Ranked b (rank K size s f x y) c = subst (λ v. Ranked v (rank K size s f x y) c) (fun-ext is) (subst (λ q. Ranked w q c) rank-is h) in
           ap (K .tone) (ranked-one b (rank K size s f x y) c (ranked b (rank K size s f x y) (K .count)) mine (ranked-is b (rank K size s f x y) (K .count) rank-some rank-most .0))

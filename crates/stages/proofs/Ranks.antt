@@ -6,9 +6,14 @@ use mathlib.Core.Logic.{⊎-elim}
 use native.Mathlib.Omega.{arith}
 use lib.Dec.{leb}
 use Rattle.std.proofs.shelf.Tests.{cases-lt, le-leb, lt-leb}
+use Rattle.std.specs.Results.{isOk}
+use Rattle.std.specs.declared.result.Result.{Result}
+use Rattle.std.specs.declared.result.Result.the-variants.{Ok, Err}
 use Rattle.recipes.specs.declared.recipe.Operation.{Operation}
 use Rattle.recipes.specs.declared.recipe.Operation.the-variants.{Erosion, Dilation}
 use Rattle.selectors.specs.Bag.{below, Ranked}
+use Rattle.selectors.specs.Calls.{Selected}
+use Rattle.selectors.specs.declared.refusals.SelectRefusal.{SelectRefusal}
 use Rattle.selectors.proofs.Sums.{below-zero}
 use Rattle.selectors.proofs.Ranks.{ranked-from}
 use Rattle.stages.specs.Stages.{ranked, rank-of}
@@ -40,3 +45,8 @@ rank-positive Dilation k n h = omega arith
 pub rank-within : (o : Operation) (k n : ℕ) → 0 < k → k ≤ n → rank-of o k n ≤ n
 rank-within Erosion k n h l = l
 rank-within Dilation k n h l = omega arith
+
+-- a rank up to the total is not refused
+pub selected-ok : (w : ℕ → ℕ) (n r : ℕ) (a : Result ℕ SelectRefusal) → 0 < r → r ≤ below w n → Selected w n r a → isOk a ≡ true
+selected-ok w n r (Ok c) p h s = refl
+selected-ok w n r (Err e) p h s = absurd (⊎-elim (λ (z : r ≡ 0). omega (arith, z, p)) (λ (z : below w n < r). omega (arith, z, h)) (s .1))

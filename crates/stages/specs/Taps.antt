@@ -1,6 +1,6 @@
 -- A window prepared for its stage: each place turned into a tap, by which an erosion reads. Assumes nothing.
 use mathlib.Core.Bool.{Bool, cond, _&&_}
-use Prim.Native.Nat.{ℕ}
+use Prim.Native.Nat.{ℕ, _≤_}
 use lib.Dec.{eqb}
 use lib.IntN.{ℤ, pos, negℤ, natAbs, _+ℤ_}
 use Rattle.std.specs.declared.option.Option.{Option}
@@ -10,6 +10,7 @@ use Rattle.recipes.specs.declared.places.Place.{Place}
 use Rattle.recipes.specs.declared.recipe.Operation.{Operation}
 use Rattle.recipes.specs.declared.recipe.Operation.the-variants.{Erosion, Dilation}
 use Rattle.recipes.specs.declared.recipe.Stage.{Stage}
+use Rattle.selectors.specs.Bag.{below, held}
 use Rattle.stages.specs.declared.taps.Tap.{Tap}
 use Rattle.stages.specs.Stages.{Picture, on-card, weight}
 use Rattle.tones.specs.Kind.{Kind}
@@ -41,3 +42,7 @@ module _ {T R : Type 0} (K : Kind T R) (size : Size) (f : Picture T) (x y : ℕ)
   -- what a tap adds to the weight of the code c
   abbrev pub tap-adds : Tap → ℕ → ℕ
   tap-adds t c = cond ((on-card (size .width) (pos x +ℤ t .dx) && on-card (size .height) (pos y +ℤ t .dy)) && eqb (tap-code t) c) (t .weight) 0
+
+-- a selector of range n has room for one place more: at most 48 places of at most 49 each are in
+abbrev pub Room : (ℕ → ℕ) → ℕ → Type 0
+Room w n = (held w n ≤ 48) × (below w n ≤ 2400)

@@ -1,7 +1,7 @@
 //! Soft erosion and dilation at every pixel, for every tone kind and selector.
 
 pub mod pixels;
-pub mod reading;
+mod reading;
 pub mod rows;
 pub mod taps;
 #[cfg(test)]

@@ -2,10 +2,10 @@
 
 ghost use Prim.Native.Nat.{ℕ, _+_, _<_, _≤_};
 ghost use Rattle.planes.specs.Sizes.{Limits, area};
-ghost use Rattle.selectors.specs.Bag.{added, below, held};
+ghost use Rattle.selectors.specs.Bag.{Ranked, added, below};
 ghost use Rattle.stages.specs.Planes.{picture};
 ghost use Rattle.stages.specs.Stages.{bag, cleaned};
-ghost use Rattle.stages.specs.Taps.{tap-adds};
+ghost use Rattle.stages.specs.Taps.{Room, tap-adds};
 ghost use lib.ListN.{length};
 ghost use mathlib.Core.Path.{_≡_};
 use crate::reading::code_at;
@@ -20,12 +20,21 @@ use tones::Tone;
 fn put<S: Selector>(selector: &mut S, code: u32, amount: u32)
     requires order { ⌜ ordered (now selector) ⌝ }
     requires fit { ⌜ code < range (now selector) ⌝ ∗ ⌜ 0 < amount ⌝ ∗ ⌜ amount ≤ 49 ⌝ }
-    requires room { ⌜ held (weight (now selector)) (range (now selector)) ≤ 48 ⌝ ∗ ⌜ below (weight (now selector)) (range (now selector)) ≤ 2400 ⌝ }
+    requires room { ⌜ Room (weight (now selector)) (range (now selector)) ⌝ }
     ensures weights { λ _. ⌜ ((c : ℕ) → weight (now (selector .exit)) c ≡ added (weight (now (selector .entry))) code amount c) ⌝ }
     ensures range_kept { λ _. ⌜ range (now (selector .exit)) ≡ range (now (selector .entry)) ⌝ }
     ensures in_order { λ _. ⌜ ordered (now (selector .exit)) ⌝ }
 {
     selector.put(code, amount).unwrap()
+}
+
+/// The code at a rank that the selector has: it is not refused.
+fn select<S: Selector>(selector: &S, rank: u32) -> u32
+    requires order { ⌜ ordered (now selector) ⌝ }
+    requires fit { ⌜ 0 < rank ⌝ ∗ ⌜ rank ≤ below (weight (now selector)) (range (now selector)) ⌝ }
+    ensures { λ r. ⌜ Ranked (weight (now (selector .entry))) rank r ⌝ }
+{
+    selector.select(rank).unwrap()
 }
 
 /// Puts what a tap reads, if that lies on the card.
@@ -39,7 +48,7 @@ fn put_tap<T: Tone, S: Selector>(
 )
     requires order { ⌜ S·Selector .ordered (now selector) ⌝ }
     requires codes { ⌜ T·Tone .kind .count ≤ S·Selector .range (now selector) ⌝ }
-    requires room { ⌜ held (S·Selector .weight (now selector)) (S·Selector .range (now selector)) ≤ 48 ⌝ ∗ ⌜ below (S·Selector .weight (now selector)) (S·Selector .range (now selector)) ≤ 2400 ⌝ }
+    requires room { ⌜ Room (S·Selector .weight (now selector)) (S·Selector .range (now selector)) ⌝ }
     requires fit { ⌜ 0 < now tap .weight ⌝ ∗ ⌜ now tap .weight ≤ 49 ⌝ }
     requires size { ⌜ Limits size ⌝ }
     requires plane { ⌜ length (now plane) ≡ area size ⌝ }
@@ -131,5 +140,5 @@ pub fn pixel<T: Tone, S: Selector>(
 {
     fill::<T, S>(selector, window, size, plane, x, y);
     let rank = window.rank(selector.total());
-    T::of_code(selector.select(rank).unwrap())
+    T::of_code(select(selector, rank))
 }

@@ -46,11 +46,8 @@ impl Window {
         requires { ⌜ total < 2 ^ 31 ⌝ }
         ensures { λ r. ⌜ r ≡ rank-of (now (self .entry) .stage .operation) (now (self .entry) .stage .element .order) total ⌝ }
     {
-        rank_of(
-            self.stage.operation,
-            self.stage.element.order_index(),
-            total,
-        )
+        let order = self.stage.element.order_index();
+        rank_of(self.stage.operation, order, total)
     }
 }
 

@@ -23,9 +23,9 @@ returns g c =
     let j = c .args .j in
     let m = c .args .memory .now in
     let begins : c .start-from .result ≡ start (c .args .size) (c .args .j) = c .start-from .ensures .value in
-    let next : c .start-from .result + c .area .result ≡ start (c .args .size) (c .args .j + 1) = omega (arith, begins, c .area .ensures .value, plane-end (c .args .size) (c .args .j)) in
+    let next : c .plane-after-into .result ≡ start (c .args .size) (c .args .j + 1) = omega (arith, begins, c .plane-after-into .ensures, plane-end (c .args .size) (c .args .j)) in
     record {
-      memory = c .stage-rows .ensures .memory ∙ (ap (λ s. rows-made k size s (c .start-from .result) (c .start-from .result + c .area .result) m (size .height)) (c .of .ensures) ∙ ap₂ (λ a b. rows-made k size (c .args .stage .now) a b m (size .height)) begins next);
+      memory = c .stage-rows .ensures .memory ∙ (ap (λ s. rows-made k size s (c .start-from .result) (c .plane-after-into .result) m (size .height)) (c .of .ensures) ∙ ap₂ (λ a b. rows-made k size (c .args .stage .now) a b m (size .height)) begins next);
       weights = λ d. c .stage-rows .ensures .weights d ∙ (ap (λ s. bag k size s (picture k size (c .start-from .result) m) (size .width - 1) (size .height - 1) d) (c .of .ensures) ∙ ap (λ a. bag k size (c .args .stage .now) (picture k size a m) (size .width - 1) (size .height - 1) d) begins);
       range-kept = c .stage-rows .ensures .range-kept;
       in-order = c .stage-rows .ensures .in-order;

@@ -1,10 +1,9 @@
-use mathlib.Core.Path.{_≡_, refl, ap, subst, _∙_}
+use mathlib.Core.Path.{_≡_, refl, ap, _∙_}
 use mathlib.Core.Bool.{true}
-use mathlib.Core.List.{List, map}
-use native.Mathlib.Omega.{arith}
+use mathlib.Core.List.{map}
 use lib.ListN.{length, take, replicate}
 use Rattle.std.specs.declared.option.Option.the-variants.{Some}
-use Rattle.areas.specs.Areas.{Area, on-card, all-stale}
+use Rattle.areas.specs.Areas.{on-card}
 use Rattle.areas.proofs.Fitting.{on-card-all}
 use Rattle.areas.proofs.Walks.{take-same}
 use Rattle.areas.proofs.areas.Areas.all_stale.Needs as need

@@ -1,9 +1,9 @@
-use mathlib.Core.Path.{_≡_, refl, sym, ap, subst, _∙_}
+use mathlib.Core.Path.{_≡_, sym, ap, subst, _∙_}
 use native.Mathlib.Omega.{arith}
-use lib.ListN.{length, getD}
-use Prim.Native.Nat.{ℕ, suc, _-_, _<_}
-use Rattle.std.specs.declared.option.Option.the-variants.{Some, None}
-use Rattle.areas.specs.Areas.{Area, last-area, met, First-met}
+use lib.ListN.{getD}
+use Prim.Native.Nat.{_-_, _<_}
+use Rattle.std.specs.declared.option.Option.the-variants.{None}
+use Rattle.areas.specs.Areas.{last-area, met, First-met}
 use Rattle.areas.specs.Listed.{listed}
 use Rattle.areas.proofs.Listing.{length-listed, listed-at}
 use Rattle.areas.proofs.Walks.{last-at, last-none}

@@ -1,8 +1,6 @@
-use mathlib.Core.Path.{_≡_, sym, ap, _∙_}
+use mathlib.Core.Path.{sym, ap, _∙_}
 use native.Mathlib.Omega.{arith}
-use lib.ListN.{length, getD}
-use Prim.Native.Nat.{_+_, _<_, _≤_}
-use Rattle.std.specs.declared.option.Option.the-variants.{Some, None}
+use Prim.Native.Nat.{_+_}
 use Rattle.areas.specs.Areas.{numbered}
 use Rattle.areas.specs.Listed.{listed}
 use Rattle.areas.proofs.Listing.{length-listed, listed-at}

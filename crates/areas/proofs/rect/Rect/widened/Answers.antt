@@ -1,4 +1,4 @@
-use mathlib.Core.Path.{_≡_, sym, subst}
+use mathlib.Core.Path.{sym, subst}
 use Rattle.areas.specs.declared.rect.Rect.{Rect}
 use Rattle.areas.specs.Rects.{Holds, Near, Exactly}
 use Rattle.areas.proofs.Spreading.{widened-exact}
