@@ -9,12 +9,13 @@ struct histogram { uint16_t weights[512]; uint32_t sum; };
 static int in_shape(uint32_t shape, int dx, int dy)
 {
     int x = abs(dx), y = abs(dy);
-    switch (shape) {
-    case 0: return x + y <= 1;
-    case 1: return x <= 1 && y <= 1;
-    case 2: return x <= 2 && y <= 2 && !(x == 2 && y == 2);
-    default: return 1;
-    }
+    if (shape == 0)
+        return x + y <= 1;
+    if (shape == 1)
+        return x <= 1 && y <= 1;
+    if (shape == 2)
+        return x <= 2 && y <= 2 && !(x == 2 && y == 2);
+    return 1;
 }
 
 static size_t prepare(uint32_t shape, uint32_t order, struct tap *taps)
