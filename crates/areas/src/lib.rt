@@ -1,5 +1,7 @@
 //! Stale areas: which rows of which stage of a recipe have to be redone.
 
+#![tactic(auto)]
+
 pub mod areas;
 pub mod changes;
 pub mod reads;

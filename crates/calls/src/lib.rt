@@ -1,3 +1,5 @@
 //! What the calls on a card answer and leave, and what a card promises of every run of them.
 
+#![tactic(auto)]
+
 pub mod refusals;

@@ -1,5 +1,7 @@
 //! Worked examples, as one theorem over the definitions that the contracts cite.
 
+#![tactic(auto)]
+
 ghost use Rattle.cases.specs.Examples.{WorkedExamples};
 
 /// Every worked example holds. The number returned means nothing.

@@ -1,5 +1,7 @@
 // clean: reads a raw PGM card from standard input and prints it as plain PGM.
 
+#![tactic(auto)]
+
 mod text;
 
 use std::io;

@@ -1,5 +1,7 @@
 //! A whole plane of a stage, with the laws of soft morphology.
 
+#![tactic(auto)]
+
 #[cfg(test)]
 mod tests;
 pub mod whole;

@@ -1,5 +1,7 @@
 // Raw PGM: a file read as its picture, or refused with its first fault.
 
+#![tactic(auto)]
+
 mod bytes;
 pub mod faults;
 pub mod file;

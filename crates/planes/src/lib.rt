@@ -1,3 +1,5 @@
 //! The size of a card, and where its planes and pixels lie in one long memory.
 
+#![tactic(auto)]
+
 pub mod size;

@@ -1,4 +1,7 @@
 //! Plays a script of calls on a selector: standard input has one command a line, standard output one answer a line.
+
+#![tactic(auto)]
+
 mod call;
 mod chosen;
 mod play;

@@ -1,5 +1,7 @@
 //! What a recipe is made of: structuring elements, steps and stages.
 
+#![tactic(auto)]
+
 pub mod draft;
 pub mod edits;
 pub mod element;

@@ -1,4 +1,7 @@
 //! Plays a script of calls on a card: standard input has one command a line, standard output one answer a line.
+
+#![tactic(auto)]
+
 mod loads;
 mod player;
 mod script;

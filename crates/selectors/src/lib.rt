@@ -1,4 +1,7 @@
 //! Weighted rank selection: one interface, `Selector`, and three implementations of it.
+
+#![tactic(auto)]
+
 mod entries;
 mod gate;
 mod histogram;

@@ -1,5 +1,7 @@
 // soft_clean: reads a raw PGM card from standard input and prints it, eroded by the cross of order 2, as plain PGM.
 
+#![tactic(auto)]
+
 mod cleaning;
 mod text;
 

@@ -1,5 +1,7 @@
 //! Soft erosion and dilation at every pixel, for every tone kind and selector.
 
+#![tactic(auto)]
+
 pub mod pixels;
 mod reading;
 pub mod rows;

@@ -1,4 +1,7 @@
 //! Tone kinds: marks, greys, reliefs and colours behind one interface.
+
+#![tactic(auto)]
+
 mod colours;
 mod greys;
 mod interface;
