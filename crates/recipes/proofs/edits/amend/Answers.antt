@@ -1,7 +1,7 @@
 use Rattle.std.proofs.Common.{◌<◌, length, arith}
 use Rattle.std.proofs.lemmas.List.{take_all, drop_all, append-nil, get_or_default}
 use Rattle.std.proofs.lemmas.List.Edits.{map_over_more}
-use Rattle.std.proofs.lemmas.Int.{to_z_of_z}
+use Rattle.std.proofs.lemmas.Int.{to_z-of_z}
 use Rattle.recipes.specs.Places.{amended, origin}
 use Rattle.recipes.proofs.edits.amend.Goals as goal
 
@@ -14,4 +14,4 @@ pub returns : goal.returns
 returns c =
     let a = take_all c.loop-place.place-index c.args.places.now c.loop-place-test.false in
     let b = drop_all c.loop-place.place-index c.args.places.now c.loop-place-test.false in
-    grind (arith, to_z_of_z, append-nil)
+    grind (arith, to_z-of_z, append-nil)

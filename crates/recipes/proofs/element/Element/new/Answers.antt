@@ -3,6 +3,6 @@ use Rattle.recipes.specs.Lawful.{lawful, apart}
 use Rattle.recipes.specs.Places.{any, all}
 use Rattle.recipes.proofs.element.Element.new.Goals as goal
 
-pub invariant-of-result : goal.invariant-of-result
+pub invariant_of-result : goal.invariant_of-result
 unfolding lawful apart any all
-invariant-of-result c = (refl, (search rules, (refl, tt)))
+invariant_of-result c = record { long = refl; within = search rules; sound = refl }

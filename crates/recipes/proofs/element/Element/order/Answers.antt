@@ -3,7 +3,11 @@ use Rattle.recipes.proofs.Keeps.{sound, lawful_from}
 use Rattle.recipes.specs.Placed.{placed}
 use Rattle.recipes.proofs.element.Element.order.Goals as goal
 
-pub invariant-of-self : goal.invariant-of-self
-invariant-of-self c =
+pub invariant_of-self : goal.invariant_of-self
+invariant_of-self c =
     let s = sound (placed c.args.self.now) c.args.self.now.order c.args.self.now.sound in
-    (c.args.self.now.long, (c.args.self.now.within, (lawful_from (placed c.args.self.now) c.args.k (record { centred = s.centred; inside = s.inside; single = s.single; ordered = grind arith }), tt)))
+    record {
+      long = c.args.self.now.long;
+      within = c.args.self.now.within;
+      sound = lawful_from (placed c.args.self.now) c.args.k (record { centred = s.centred; inside = s.inside; single = s.single; ordered = grind arith });
+    }

@@ -5,10 +5,14 @@ use Rattle.recipes.proofs.element.Element.push.Goals as goal
 pub bounds-self-self : goal.bounds-self-self
 bounds-self-self c = push_fits c.args.self.now c.args.place c.requires.limits c.requires.free
 
-pub invariant-of-self : goal.invariant-of-self
-invariant-of-self c =
+pub invariant_of-self : goal.invariant_of-self
+invariant_of-self c =
     let room = push_fits c.args.self.now c.args.place c.requires.limits c.requires.free in
-    (push_long c.args.self.now c.args.place c.requires.limits c.requires.free, (omega arith, (push_lawful c.args.self.now c.args.place c.requires.limits c.requires.free, tt)))
+    record {
+      long = push_long c.args.self.now c.args.place c.requires.limits c.requires.free;
+      within = omega arith;
+      sound = push_lawful c.args.self.now c.args.place c.requires.limits c.requires.free;
+    }
 
 pub returns : goal.returns
 returns c = record { places = push_placed c.args.self.now c.args.place c.requires.limits c.requires.free; order = refl }
