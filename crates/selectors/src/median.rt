@@ -34,11 +34,11 @@ pub fn weighted_median<S: Selector>(
     selector: &mut S,
     entries: &[Entry],
 ) -> Result<u32, MedianRefusal>
-    requires { ordered selector.old }
-    ensures answer { Median entries.now (range selector.old) result }
-    ensures weights { (c : ℕ) → weight selector.new c ≡ weigh entries.now (put_count entries.now result) c }
-    ensures range_kept { range selector.new ≡ range selector.old }
-    ensures in_order { ordered selector.new }
+    requires { S.ordered selector.old }
+    ensures answer { Median entries.now (S.range selector.old) result }
+    ensures weights { (c : ℕ) → S.weight selector.new c ≡ weigh entries.now (put_count entries.now result) c }
+    ensures range_kept { S.range selector.new ≡ S.range selector.old }
+    ensures in_order { S.ordered selector.new }
     ensures one_answer { OneAnswer }
     ensures has_weight { AnswerHasWeight }
 {

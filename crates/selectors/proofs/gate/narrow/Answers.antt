@@ -8,22 +8,22 @@ use Rattle.selectors.proofs.gate.narrow.Goals as goal
 pub loop-bit-init : goal.loop-bit-init
 loop-bit-init c = (omega arith, (omega (arith, below_zero (weigh c.args.entries.now (length c.args.entries.now))), omega arith, omega arith, omega arith))
 
-pub overflow-mul-low : goal.overflow-mul-low
-overflow-mul-low c = omega (arith, halved_small _ _ _ _ _ c.loop-bit.invariant)
+pub overflow_mul-low : goal.overflow_mul-low
+overflow_mul-low c = omega (arith, halved_small _ _ _ _ _ c.loop-bit.invariant)
 
 pub loop-entry-init : goal.loop-entry-init
 loop-entry-init c = sym (below_zero _)
 
 -- the sum after this entry
-lower_more : (c : goal.After-weight-under-lower) → c.loop-entry.lower + c.weight-under-lower.result ≡ below (λ i. under (get_or c.args.entries.now i blank) (c.loop-bit.bit - 1) c.loop-bit.low) (c.loop-entry.entry-index + 1)
+lower_more : (c : goal.After-weight_under-lower) → c.loop-entry.lower + c.weight_under-lower.result ≡ below (λ i. under (get_or c.args.entries.now i blank) (c.loop-bit.bit - 1) c.loop-bit.low) (c.loop-entry.entry-index + 1)
 lower_more c =
     let f : ℕ → ℕ = λ i. under (get_or c.args.entries.now i blank) (c.loop-bit.bit - 1) c.loop-bit.low in
     let was : c.loop-entry.lower ≡ below f c.loop-entry.entry-index = c.loop-entry.invariant in
-    let here : c.weight-under-lower.result ≡ f c.loop-entry.entry-index = c.weight-under-lower.ensures in
+    let here : c.weight_under-lower.result ≡ f c.loop-entry.entry-index = c.weight_under-lower.ensures in
     omega (arith, was, here, below_more f c.loop-entry.entry-index)
 
-pub overflow-add-lower : goal.overflow-add-lower
-overflow-add-lower c =
+pub overflow_add-lower : goal.overflow_add-lower
+overflow_add-lower c =
     let small = halved_half _ _ _ _ _ (omega arith) c.loop-bit.invariant in
     let light = under_light c.args.entries.now (length c.args.entries.now) (c.loop-bit.bit - 1) c.loop-bit.low (c.loop-entry.entry-index + 1) (omega arith) small (omega arith) in
     omega (arith, light, lower_more c)
@@ -34,11 +34,11 @@ loop-entry-preserved c = lower_more c
 pub loop-bit-preserved-then-left-lower : goal.loop-bit-preserved-then-left-lower
 loop-bit-preserved-then-left-lower c = halved_low _ _ _ _ _ c.loop-entry.lower (omega arith) c.loop-bit.invariant (under_all c.args.entries.now (c.loop-bit.bit - 1) c.loop-bit.low c.loop-entry.entry-index c.loop-entry.lower (omega arith) c.loop-entry.invariant) (omega arith)
 
-pub overflow-add-low : goal.overflow-add-low
-overflow-add-low c = omega (arith, halved_small _ _ _ _ _ c.loop-bit.invariant)
+pub overflow_add-low : goal.overflow_add-low
+overflow_add-low c = omega (arith, halved_small _ _ _ _ _ c.loop-bit.invariant)
 
-pub overflow-mul-low-else-left-lower : goal.overflow-mul-low-else-left-lower
-overflow-mul-low-else-left-lower c = omega (arith, halved_small _ _ _ _ _ c.loop-bit.invariant)
+pub overflow_mul-low-else-left-lower : goal.overflow_mul-low-else-left-lower
+overflow_mul-low-else-left-lower c = omega (arith, halved_small _ _ _ _ _ c.loop-bit.invariant)
 
 pub loop-bit-preserved : goal.loop-bit-preserved
 loop-bit-preserved c = halved_high _ _ _ _ _ c.loop-entry.lower (omega arith) c.loop-bit.invariant (under_all c.args.entries.now (c.loop-bit.bit - 1) c.loop-bit.low c.loop-entry.entry-index c.loop-entry.lower (omega arith) c.loop-entry.invariant) (omega arith)

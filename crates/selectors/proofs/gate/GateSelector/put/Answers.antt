@@ -15,57 +15,49 @@ returns-then-amount-self c =
     record {
       answer = sym (put_heavy w 33554432 c.args.code c.args.amount (omega arith) (omega arith) (inr (weigh_held s.entries s.count c.in-Some.at c.args.code s.weighty p.0 p.1)) (omega arith));
       weights = λ d. refl;
-      range-kept = refl;
+      range_kept = refl;
       in_order = tt;
     }
 
-pub overflow-add-weight : goal.overflow-add-weight
-overflow-add-weight c =
+pub overflow_add-weight : goal.overflow_add-weight
+overflow_add-weight c =
     let s = c.args.self.now in
     let p = place_some s.entries s.count c.args.code c.in-Some.at (omega arith) c.in-Some.ensures in
     omega (arith, weigh_some s.entries s.count c.in-Some.at c.args.code p.0 p.1, below_at (weigh s.entries s.count) c.args.code 33554432 (omega arith))
 
-pub invariant-of-self : goal.invariant-of-self
-invariant-of-self c =
+pub invariant_of-self : goal.invariant_of-self
+invariant_of-self c =
     let s = c.args.self.now in
-    let p = place_some s.entries s.count c.args.code c.in-Some.at (omega arith) c.in-Some.ensures in (
-      length-set s.entries c.in-Some.at _ ∙ s.size,
-      (
-        weighty_more s.entries s.count c.in-Some.at c.args.code c.args.amount (omega (arith, p.0)) (omega arith) s.weighty,
-        (
-          tally_more s.entries 33554432 s.count s.sum c.in-Some.at c.args.code c.args.amount s.weighty s.tally p.0 (omega arith) p.1 (omega arith) (omega arith) (omega arith),
-          tt,
-        ),
-      ),
-    )
+    let p = place_some s.entries s.count c.args.code c.in-Some.at (omega arith) c.in-Some.ensures in
+    record {
+      size = length-set s.entries c.in-Some.at _ ∙ s.size;
+      weighty = weighty_more s.entries s.count c.in-Some.at c.args.code c.args.amount (omega (arith, p.0)) (omega arith) s.weighty;
+      tally = tally_more s.entries 33554432 s.count s.sum c.in-Some.at c.args.code c.args.amount s.weighty s.tally p.0 (omega arith) p.1 (omega arith) (omega arith) (omega arith);
+    }
 
-pub returns-then-self-eq-MOST-CODES : goal.returns-then-self-eq-MOST-CODES
-returns-then-self-eq-MOST-CODES c =
+pub returns-then-self-eq-MOST_CODES : goal.returns-then-self-eq-MOST_CODES
+returns-then-self-eq-MOST_CODES c =
     let s = c.args.self.now in
     let w = weigh s.entries s.count in
     let none = weigh_none s.entries s.count c.args.code (place_none s.entries s.count c.args.code (omega arith) c.in-None.ensures) in
     record {
       answer = sym (put_full w 33554432 c.args.code c.args.amount (omega arith) (omega arith) (omega arith) none);
       weights = λ d. refl;
-      range-kept = refl;
+      range_kept = refl;
       in_order = tt;
     }
 
-pub invariant-of-self-in-None : goal.invariant-of-self-in-None
-invariant-of-self-in-None c =
+pub invariant_of-self-in-None : goal.invariant_of-self-in-None
+invariant_of-self-in-None c =
     let s = c.args.self.now in
     let none = weigh_none s.entries s.count c.args.code (place_none s.entries s.count c.args.code (omega arith) c.in-None.ensures) in
     let few : s.count < 64 = omega arith in
-    let ins = inserted_last s.entries s.count (record { code = c.args.code; weight = c.args.amount }) (omega arith) in (
-      length-set s.entries s.count _ ∙ s.size,
-      (
-        weighty_inserted s.entries _ s.count s.count c.args.code c.args.amount (omega arith) (omega arith) ins s.weighty,
-        (
-          tally_inserted s.entries _ 33554432 s.count s.sum s.count c.args.code c.args.amount s.tally (omega arith) ins none (omega arith) (omega arith) few (omega arith),
-          tt,
-        ),
-      ),
-    )
+    let ins = inserted_last s.entries s.count (record { code = c.args.code; weight = c.args.amount }) (omega arith) in
+    record {
+      size = length-set s.entries s.count _ ∙ s.size;
+      weighty = weighty_inserted s.entries _ s.count s.count c.args.code c.args.amount (omega arith) (omega arith) ins s.weighty;
+      tally = tally_inserted s.entries _ 33554432 s.count s.sum s.count c.args.code c.args.amount s.tally (omega arith) ins none (omega arith) (omega arith) few (omega arith);
+    }
 
 pub returns-else-amount-self : goal.returns-else-amount-self
 returns-else-amount-self c =
@@ -75,7 +67,7 @@ returns-else-amount-self c =
     record {
       answer = sym (put_taken w 33554432 c.args.code c.args.amount (omega arith) (omega arith) (inr (weigh_held s.entries s.count c.in-Some.at c.args.code s.weighty p.0 p.1)) (omega arith));
       weights = λ d. weigh_more s.entries s.count c.in-Some.at c.args.code c.args.amount d p.0 (omega (arith, p.0)) p.1;
-      range-kept = refl;
+      range_kept = refl;
       in_order = tt;
     }
 
@@ -88,6 +80,6 @@ returns-else-amount-self-2 c =
     record {
       answer = sym (put_taken w 33554432 c.args.code c.args.amount (omega arith) (omega arith) (inl (omega arith)) (omega arith));
       weights = λ d. weigh_inserted s.entries _ s.count s.count c.args.code c.args.amount d (omega arith) ins;
-      range-kept = refl;
+      range_kept = refl;
       in_order = tt;
     }

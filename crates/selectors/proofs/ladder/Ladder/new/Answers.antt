@@ -4,8 +4,13 @@ use Rattle.selectors.proofs.Tallies.{tally_none}
 use Rattle.selectors.proofs.Weighing.{weigh_zero}
 use Rattle.selectors.proofs.ladder.Ladder.new.Goals as goal
 
-pub invariant-of-result : goal.invariant-of-result
-invariant-of-result c = (refl, (λ i l. absurd (omega arith), (λ i j l m. absurd (omega arith), (tally_none (weigh (replicate 64 blank) 0) 33554432 _ _ (weigh_zero (replicate 64 blank)) (omega arith) (omega arith), tt))))
+pub invariant_of-result : goal.invariant_of-result
+invariant_of-result c = record {
+  size = refl;
+  weighty = λ i l. absurd (omega arith);
+  rising = λ i j l m. absurd (omega arith);
+  tally = tally_none (weigh (replicate 64 blank) 0) 33554432 _ _ (weigh_zero (replicate 64 blank)) (omega arith) (omega arith);
+}
 
 pub returns : goal.returns
 returns c = record { weights = weigh_zero (replicate 64 blank) }

@@ -4,8 +4,13 @@ use Rattle.selectors.proofs.Tallies.{tally_none}
 use Rattle.selectors.proofs.Weighing.{weigh_zero}
 use Rattle.selectors.proofs.ladder.LadderSelector.empty.Goals as goal
 
-pub invariant-of-self : goal.invariant-of-self
-invariant-of-self c = (c.args.self.now.size, (λ i l. absurd (omega arith), (λ i j l m. absurd (omega arith), (tally_none _ 33554432 _ _ (weigh_zero _) (omega arith) (omega arith), tt))))
+pub invariant_of-self : goal.invariant_of-self
+invariant_of-self c = record {
+  size = c.args.self.now.size;
+  weighty = λ i l. absurd (omega arith);
+  rising = λ i j l m. absurd (omega arith);
+  tally = tally_none _ 33554432 _ _ (weigh_zero _) (omega arith) (omega arith);
+}
 
 pub returns : goal.returns
-returns c = record { weights = weigh_zero _; range-kept = refl; in_order = tt }
+returns c = record { weights = weigh_zero _; range_kept = refl; in_order = tt }
