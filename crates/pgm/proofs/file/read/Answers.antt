@@ -7,30 +7,30 @@ use Rattle.pgm.proofs.Complete.{By, Judged}
 use Rattle.pgm.proofs.Readings.{by_header, one_reading, only, reads}
 use Rattle.pgm.proofs.file.read.Goals as goal
 
-pub returns-in-err-header : goal.returns-in-err-header
-returns-in-err-header c =
-    let p = err_from_is_err_and c.from-residual.result c.from-residual.ensures.1 in
-    let e = c.in-err-header.ensures.answer ∙ ap outcome c.new-reader.ensures.file in
-    let j = by_header c.args.file.now (Err c.in-err-header.field-0.0) (Faulty (Header c.in-err-header.field-0.0)) e refl in
+pub returns-in_err-header : goal.returns-in_err-header
+returns-in_err-header c =
+    let p = err_from_is_err_and c.from_residual.result c.from_residual.ensures.1 in
+    let e = c.in_err-header.ensures.answer ∙ ap outcome c.new-reader.ensures.file in
+    let j = by_header c.args.file.now (Err c.in_err-header.field-0.0) (Faulty (Header c.in_err-header.field-0.0)) e refl in
     rw (p.1, p.2) (record { answer = reads _ _ j; unambiguous = one_reading; only = only _ _ j })
 
-pub returns-in-err-samples : goal.returns-in-err-samples
-returns-in-err-samples c =
-    let p = err_from_is_err_and c.from-residual-in-err-samples.result c.from-residual-in-err-samples.ensures.1 in
+pub returns-in_err-samples : goal.returns-in_err-samples
+returns-in_err-samples c =
+    let p = err_from_is_err_and c.from_residual-in_err-samples.result c.from_residual-in_err-samples.ensures.1 in
     let file = c.header.ensures.file ∙ c.new-reader.ensures.file in
-    let e = c.in-ok-header.ensures.answer ∙ ap outcome c.new-reader.ensures.file in
-    let u : Judged c.args.file.now c.in-ok-header.header (Faulty c.in-err-samples.field-0.0) =
-    rw (c.in-ok-header.ensures.next, file) at c.in-err-samples.ensures in
-    let j = by_header c.args.file.now (Ok c.in-ok-header.header) (Faulty c.in-err-samples.field-0.0) e u in
+    let e = c.in_ok-header.ensures.answer ∙ ap outcome c.new-reader.ensures.file in
+    let u : Judged c.args.file.now c.in_ok-header.header (Faulty c.in_err-samples.field-0.0) =
+    rw (c.in_ok-header.ensures.next, file) at c.in_err-samples.ensures in
+    let j = by_header c.args.file.now (Ok c.in_ok-header.header) (Faulty c.in_err-samples.field-0.0) e u in
     rw (p.1, p.2) (record { answer = reads _ _ j; unambiguous = one_reading; only = only _ _ j })
 
 pub returns : goal.returns
 returns c =
     let file = c.header.ensures.file ∙ c.new-reader.ensures.file in
-    let e = c.in-ok-header.ensures.answer ∙ ap outcome c.new-reader.ensures.file in
-    let h = c.in-ok-header.header in
-    let s = rw (c.in-ok-header.ensures.next, file) at c.in-ok-samples.ensures in
-    let j = by_header c.args.file.now (Ok h) (Shows h.width h.height h.maxval c.in-ok-samples.samples.now) e
+    let e = c.in_ok-header.ensures.answer ∙ ap outcome c.new-reader.ensures.file in
+    let h = c.in_ok-header.header in
+    let s = rw (c.in_ok-header.ensures.next, file) at c.in_ok-samples.ensures in
+    let j = by_header c.args.file.now (Ok h) (Shows h.width h.height h.maxval c.in_ok-samples.samples.now) e
     (refl, refl, refl, s.0, s.1, s.2) in
     let k = subst (By c.args.file.now (outcome c.args.file.now)) (sym c.picture.ensures) j in
     record { answer = reads _ _ k; unambiguous = one_reading; only = only _ _ k }
