@@ -7,8 +7,8 @@ use Rattle.areas.proofs.changes.spread_over.Goals as goal
 pub loop-i-init : goal.loop-i-init
 loop-i-init c = (c.requires.fits, c.requires.sound, refl)
 
-pub spread-at-below-requires : goal.spread-at-below-requires
-spread-at-below-requires c = record { size = c.requires.size; fits = c.loop-i.invariant.0; area = omega arith; stage = omega arith }
+pub spread_at-below-requires : goal.spread_at-below-requires
+spread_at-below-requires c = record { size = c.requires.size; fits = c.loop-i.invariant.0; area = omega arith; stage = omega arith }
 
 pub loop-i-preserved : goal.loop-i-preserved
 loop-i-preserved c =
@@ -16,13 +16,13 @@ loop-i-preserved c =
     let ss = c.args.stages.now in
     let bs = c.loop-i.areas in
     let i = c.loop-i.i in
-    let n = c.spread-at-below.result in
+    let n = c.spread_at-below.result in
     let area : i < length bs = omega arith in
     let stage : i < length ss = omega arith in
-    let fit = spread_fits size ss c.loop-i.below n (get_or bs i None) i stage c.loop-i.invariant.0 (on_card_at size bs i c.loop-i.invariant.1) c.spread-at-below.ensures.answer in
-    let more = spread_more size ss c.loop-i.below n bs i area stage c.spread-at-below.ensures.answer ∙ c.loop-i.invariant.2 in
-    let sound : on_card size c.spread-at-below.new.areas ≡ true = rw c.spread-at-below.ensures.areas (on_card_set size bs i (Some n) c.loop-i.invariant.1 (fits_from size n fit)) in
-    (fit, sound, ap (λ l. take (i + 1) l ++ spread size (drop (i + 1) ss) n (drop (i + 1) l)) c.spread-at-below.ensures.areas ∙ more)
+    let fit = spread_fits size ss c.loop-i.below n (get_or bs i None) i stage c.loop-i.invariant.0 (on_card_at size bs i c.loop-i.invariant.1) c.spread_at-below.ensures.answer in
+    let more = spread_more size ss c.loop-i.below n bs i area stage c.spread_at-below.ensures.answer ∙ c.loop-i.invariant.2 in
+    let sound : on_card size c.spread_at-below.new.areas ≡ true = rw c.spread_at-below.ensures.areas (on_card_set size bs i (Some n) c.loop-i.invariant.1 (fits_from size n fit)) in
+    (fit, sound, ap (λ l. take (i + 1) l ++ spread size (drop (i + 1) ss) n (drop (i + 1) l)) c.spread_at-below.ensures.areas ∙ more)
 
 pub returns : goal.returns
 returns c =

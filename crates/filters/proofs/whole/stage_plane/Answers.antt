@@ -21,12 +21,12 @@ returns g c =
     let j = c.args.j in
     let m = c.args.memory.now in
     let begins : c.start-from.result ≡ start c.args.size c.args.j = c.start-from.ensures.value in
-    let next : c.plane-after-into.result ≡ start c.args.size (c.args.j + 1) = omega (arith, begins, c.plane-after-into.ensures, plane_end c.args.size c.args.j) in
+    let next : c.plane_after-into.result ≡ start c.args.size (c.args.j + 1) = omega (arith, begins, c.plane_after-into.ensures, plane_end c.args.size c.args.j) in
     record {
-      memory = c.stage-rows.ensures.memory ∙ (ap (λ s. rows_made k size s c.start-from.result c.plane-after-into.result m size.height) c.of.ensures ∙ ap₂ (λ a b. rows_made k size c.args.stage.now a b m size.height) begins next);
-      weights = λ d. c.stage-rows.ensures.weights d ∙ (ap (λ s. bag k size s (picture k size c.start-from.result m) (size.width - 1) (size.height - 1) d) c.of.ensures ∙ ap (λ a. bag k size c.args.stage.now (picture k size a m) (size.width - 1) (size.height - 1) d) begins);
-      range-kept = c.stage-rows.ensures.range-kept;
-      in_order = c.stage-rows.ensures.in_order;
+      memory = c.stage_rows.ensures.memory ∙ (ap (λ s. rows_made k size s c.start-from.result c.plane_after-into.result m size.height) c.of.ensures ∙ ap₂ (λ a b. rows_made k size c.args.stage.now a b m size.height) begins next);
+      weights = λ d. c.stage_rows.ensures.weights d ∙ (ap (λ s. bag k size s (picture k size c.start-from.result m) (size.width - 1) (size.height - 1) d) c.of.ensures ∙ ap (λ a. bag k size c.args.stage.now (picture k size a m) (size.width - 1) (size.height - 1) d) begins);
+      range_kept = c.stage_rows.ensures.range_kept;
+      in_order = c.stage_rows.ensures.in_order;
       picks = picks k law;
       soft_morphology = soft_morphology k law;
       marks_count = marks_count;

@@ -15,10 +15,10 @@ loop-y-init g c = (
 
 pub loop-y-preserved : goal.loop-y-preserved
 loop-y-preserved g c = (
-  c.stage-row.ensures.in_order,
-  c.stage-row.ensures.range-kept ∙ c.loop-y.invariant.1,
-  rows_more g.T.Tone.kind c.args.size c.args.window.now.stage c.args.from c.args.into c.args.memory.now c.requires.apart c.requires.room c.loop-y.y c.loop-y-test.true c.loop-y.memory c.loop-y.invariant.2 c.stage-row.new.memory c.stage-row.ensures.memory,
-  λ h d. window_more g.T.Tone.kind c.args.size c.args.window.now.stage c.args.from c.args.into c.args.memory.now c.requires.apart c.requires.room c.loop-y.y c.loop-y-test.true c.loop-y.memory c.loop-y.invariant.2 c.requires.size.wide (g.S.Selector.weight c.loop-y.selector) (g.S.Selector.weight c.stage-row.new.selector d) d (c.stage-row.ensures.weights d),
+  c.stage_row.ensures.in_order,
+  c.stage_row.ensures.range_kept ∙ c.loop-y.invariant.1,
+  rows_more g.T.Tone.kind c.args.size c.args.window.now.stage c.args.from c.args.into c.args.memory.now c.requires.apart c.requires.room c.loop-y.y c.loop-y-test.true c.loop-y.memory c.loop-y.invariant.2 c.stage_row.new.memory c.stage_row.ensures.memory,
+  λ h d. window_more g.T.Tone.kind c.args.size c.args.window.now.stage c.args.from c.args.into c.args.memory.now c.requires.apart c.requires.room c.loop-y.y c.loop-y-test.true c.loop-y.memory c.loop-y.invariant.2 c.requires.size.wide (g.S.Selector.weight c.loop-y.selector) (g.S.Selector.weight c.stage_row.new.selector d) d (c.stage_row.ensures.weights d),
 )
 
 pub returns : goal.returns
@@ -32,6 +32,6 @@ returns g c =
     record {
       memory = c.loop-y.invariant.2 ∙ ap (rows_made k size s c.args.from c.args.into m) end;
       weights = λ d. c.loop-y.invariant.3 some d ∙ ap (λ n. bag k size s (picture k size c.args.from m) (size.width - 1) (n - 1) d) end;
-      range-kept = c.loop-y.invariant.1;
+      range_kept = c.loop-y.invariant.1;
       in_order = c.loop-y.invariant.0;
     }

@@ -15,7 +15,7 @@ loop-i-preserved g c =
     let m = c.args.memory.now in
     let within : c.loop-i.i < length tones = omega arith in
     ap (λ l. set l (c.args.at + c.loop-i.i) c.row.result) c.loop-i.invariant
-    ∙ tones_more (λ r. k.row (k.counted r)) m tones c.args.at c.loop-i.i c.index-tones-i.result c.row.result within c.requires c.index-tones-i.is (c.row.ensures ∙ ap k.row c.of-row.ensures)
+    ∙ tones_more (λ r. k.row (k.counted r)) m tones c.args.at c.loop-i.i c.index-tones-i.result c.row.result within c.requires c.index-tones-i.is (c.row.ensures ∙ ap k.row c.of_row.ensures)
 
 pub returns : goal.returns
 returns g c =

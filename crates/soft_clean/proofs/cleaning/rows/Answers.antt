@@ -17,9 +17,9 @@ pub loop-y-preserved : goal.loop-y-preserved
 loop-y-preserved c = λ f hands.
     let s = size c.args.width c.args.height in
     let at = state c.args.card.now c.args.memory.now in
-    let bytes : Bytes c.args.memory.now = λ i. omega (arith, c.type-inv.memory i) in
+    let bytes : Bytes c.args.memory.now = λ i. omega (arith, c.type_inv.memory i) in
     let right = row_is_right at at s f c.loop-y.y c.row.result c.unwrap.result bytes hands c.loop-y-test.true c.row.ensures c.unwrap.ensures in
-    lines_next s f c.loop-y.y _ _ _ (c.loop-y.invariant f hands) right c.in-ok-extend-from-slice.ensures.items
+    lines_next s f c.loop-y.y _ _ _ (c.loop-y.invariant f hands) right c.in_ok-extend_from_slice.ensures.items
 
 pub returns : goal.returns
 returns c = λ f hands.

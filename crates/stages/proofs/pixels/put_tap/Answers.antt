@@ -13,9 +13,9 @@ returns-in-Some-Some g c =
     let deep : SFits w32 c.args.tap.now.amount = search rules in
     let column = simp to_z_of_z at arm.ensures in
     let row = simp to_z_of_z at arm.ensures' in
-    let code = simp to_z_of_z at c.code-at.ensures in
+    let code = simp to_z_of_z at c.code_at.ensures in
     record {
-      weights = λ d. c.put.ensures.weights d ∙ tap_put k c.args.size (picture k c.args.size 0 c.args.plane.now) c.args.x c.args.y c.args.tap.now arm.column arm.row c.code-at.result (g.S.Selector.weight c.args.selector.now) d column row code;
-      range-kept = c.put.ensures.range-kept;
+      weights = λ d. c.put.ensures.weights d ∙ tap_put k c.args.size (picture k c.args.size 0 c.args.plane.now) c.args.x c.args.y c.args.tap.now arm.column arm.row c.code_at.result (g.S.Selector.weight c.args.selector.now) d column row code;
+      range_kept = c.put.ensures.range_kept;
       in_order = c.put.ensures.in_order;
     }

@@ -16,8 +16,8 @@ pub loop-tap-init : goal.loop-tap-init
 unfolding window
 loop-tap-init g c = (c.requires.order, refl, c.requires.none)
 
-pub put-tap-requires : goal.put-tap-requires
-put-tap-requires g c =
+pub put_tap-requires : goal.put_tap-requires
+put_tap-requires g c =
     let k = g.T.Tone.kind in
     let s = c.args.window.now.stage in
     let i = c.loop-tap.tap-index in
@@ -47,9 +47,9 @@ loop-tap-preserved g c =
     let i = c.loop-tap.tap-index in
     let inv = c.loop-tap.invariant in
     let item = tap_item s c.taps-tap-items.result.now i _ c.taps-tap-items.ensures.taps c.loop-tap-test.true in (
-      c.put-tap.ensures.in_order,
-      c.put-tap.ensures.range-kept ∙ inv.1,
-      λ d. tap_step k c.args.size s f c.args.x c.args.y _ i d _ _ item.0 item.1 (inv.2 d) (c.put-tap.ensures.weights d),
+      c.put_tap.ensures.in_order,
+      c.put_tap.ensures.range_kept ∙ inv.1,
+      λ d. tap_step k c.args.size s f c.args.x c.args.y _ i d _ _ item.0 item.1 (inv.2 d) (c.put_tap.ensures.weights d),
     )
 
 pub returns : goal.returns
@@ -62,6 +62,6 @@ returns g c =
     let all = take_all c.loop-tap.tap-index (placed s.element) (omega (arith, size, c.loop-tap-test.false)) in
     record {
       weights = λ d. inv.2 d ∙ ap (λ l. window k c.args.size s f c.args.x c.args.y l d) all;
-      range-kept = inv.1;
+      range_kept = inv.1;
       in_order = inv.0;
     }

@@ -19,6 +19,6 @@ returns g c =
     record {
       memory = ap (λ i. set m (c.args.into + i) c.row.result) c.cell.ensures.value ∙ ap (set m _) (c.row.ensures ∙ ap k.row (c.pixel-tone.ensures.answer ∙ cleaned_same k size s part plane same c.args.x c.args.y));
       weights = λ d. c.pixel-tone.ensures.weights d ∙ bag_same k size s part plane same c.args.x c.args.y d;
-      range-kept = c.pixel-tone.ensures.range-kept;
+      range_kept = c.pixel-tone.ensures.range_kept;
       in_order = c.pixel-tone.ensures.in_order;
     }

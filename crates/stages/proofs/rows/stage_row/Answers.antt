@@ -17,8 +17,8 @@ loop-x-init g c =
       λ d. last_window_none (λ u. bag k c.args.size s f u c.args.y) (g.S.Selector.weight c.args.selector.now) c.args.left d,
     )
 
-pub stage-pixel-requires : goal.stage-pixel-requires
-stage-pixel-requires g c =
+pub stage_pixel-requires : goal.stage_pixel-requires
+stage_pixel-requires g c =
     record {
       order = c.loop-x.invariant.0;
       codes = omega (arith, c.loop-x.invariant.1, c.requires.codes);
@@ -38,10 +38,10 @@ loop-x-preserved g c =
     let inv = c.loop-x.invariant in
     let x = c.loop-x.x in
     let across : x < size.width = omega (arith, c.loop-x-test.true, c.requires.columns.1) in (
-      c.stage-pixel.ensures.in_order,
-      c.stage-pixel.ensures.range-kept ∙ inv.1,
-      row_step k size s c.args.from c.args.into c.args.y c.args.left x m c.loop-x.memory c.stage-pixel.new.memory c.requires.apart c.requires.room c.requires.row c.loop-x.auto.x across inv.2 c.stage-pixel.ensures.memory,
-      λ d. row_window k size s c.args.from c.args.into c.args.y c.args.left x m c.loop-x.memory _ (g.S.Selector.weight c.args.selector.now) d _ c.requires.apart c.requires.room c.requires.row c.loop-x.auto.x across inv.2 (c.stage-pixel.ensures.weights d),
+      c.stage_pixel.ensures.in_order,
+      c.stage_pixel.ensures.range_kept ∙ inv.1,
+      row_step k size s c.args.from c.args.into c.args.y c.args.left x m c.loop-x.memory c.stage_pixel.new.memory c.requires.apart c.requires.room c.requires.row c.loop-x.auto.x across inv.2 c.stage_pixel.ensures.memory,
+      λ d. row_window k size s c.args.from c.args.into c.args.y c.args.left x m c.loop-x.memory _ (g.S.Selector.weight c.args.selector.now) d _ c.requires.apart c.requires.room c.requires.row c.loop-x.auto.x across inv.2 (c.stage_pixel.ensures.weights d),
     )
 
 pub returns : goal.returns
@@ -55,6 +55,6 @@ returns g c =
     record {
       memory = inv.2 ∙ ap (λ n. row_made k size s c.args.from m c.args.y c.args.left n c.args.into) end;
       weights = λ d. inv.3 d ∙ ap (λ n. row_weights k size s c.args.from m c.args.y c.args.left n (g.S.Selector.weight c.args.selector.now) d) end;
-      range-kept = inv.1;
+      range_kept = inv.1;
       in_order = inv.0;
     }

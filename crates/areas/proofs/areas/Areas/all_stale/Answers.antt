@@ -4,8 +4,8 @@ use Rattle.areas.proofs.Fitting.{on_card_all}
 use Rattle.areas.proofs.Walks.{take_same}
 use Rattle.areas.proofs.areas.Areas.all_stale.Goals as goal
 
-pub invariant-of-result : goal.invariant-of-result
-invariant-of-result c =
+pub invariant_of-result : goal.invariant_of-result
+invariant_of-result c =
     let ss = c.args.stages.now in
     let l = take_same ss 8 (Some c.whole.result) c.requires.few ∙ ap (λ r. map (λ s. Some r) ss) c.whole.ensures in
     let sound : on_card c.args.size (take (length ss) (replicate 8 (Some c.whole.result))) ≡ true = rw l (on_card_all c.args.size ss c.requires.size) in

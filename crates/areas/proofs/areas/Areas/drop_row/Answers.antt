@@ -7,8 +7,8 @@ use Rattle.areas.proofs.Walks.{lowest_nothing}
 use Rattle.areas.proofs.Listing.{drop_from, drop_within, drop_fits, drop_listed, drop_long, drop_sound}
 use Rattle.areas.proofs.areas.Areas.drop_row.Goals as goal
 
-pub drop-top-requires : goal.drop-top-requires
-drop-top-requires c =
+pub drop_top-requires : goal.drop_top-requires
+drop_top-requires c =
     let a = c.args.self.now in
     let k = c.in-Some.stage in
     let r = c.in-Some.rect in
@@ -16,25 +16,25 @@ drop-top-requires c =
     let from = drop_from a k r is in
     record { counted = from; within = omega (arith, drop_within a k r is, a.long, a.few); rows = (drop_fits a k r is).rows }
 
-pub invariant-of-self : goal.invariant-of-self
-invariant-of-self c =
+pub invariant_of-self : goal.invariant_of-self
+invariant_of-self c =
     let a = c.args.self.now in
     let is = sym c.lowest.ensures.answer ∙ c.in-Some.is in
     let k = c.in-Some.stage in
     let r = c.in-Some.rect in
-    let long : length c.drop-top.new.areas ≡ 8 = rw c.drop-top.ensures (drop_long a k r is) in
-    let sound : on_card a.size (take a.count c.drop-top.new.areas) ≡ true = rw c.drop-top.ensures (drop_sound a k r is) in
+    let long : length c.drop_top.new.areas ≡ 8 = rw c.drop_top.ensures (drop_long a k r is) in
+    let sound : on_card a.size (take a.count c.drop_top.new.areas) ≡ true = rw c.drop_top.ensures (drop_sound a k r is) in
     (a.wide, (a.narrow, (a.high, (a.low, (long, (a.few, (sound, tt)))))))
 
 pub returns-in-Some : goal.returns-in-Some
 returns-in-Some c =
     let a = c.args.self.now in
     let is = sym c.lowest.ensures.answer ∙ c.in-Some.is in
-    let out = ap (take a.count) c.drop-top.ensures ∙ drop_listed a c.in-Some.stage c.in-Some.rect is in
+    let out = ap (take a.count) c.drop_top.ensures ∙ drop_listed a c.in-Some.stage c.in-Some.rect is in
     record { size = refl; areas = out; meaning = subst (Leaves (listed a) (next_of (listed a))) (sym out) (leaves (listed a)); rows = ap stale_rows out ∙ rows_dropped a.size (listed a) a.sound }
 
-pub returns-in-default : goal.returns-in-default
-returns-in-default c =
+pub returns-in_default : goal.returns-in_default
+returns-in_default c =
     let a = c.args.self.now in
-    let is = sym (lowest_nothing 1 (listed a) (sym c.lowest.ensures.answer ∙ c.in-default.is)) in
+    let is = sym (lowest_nothing 1 (listed a) (sym c.lowest.ensures.answer ∙ c.in_default.is)) in
     record { size = refl; areas = is; meaning = subst (Leaves (listed a) (next_of (listed a))) (sym is) (leaves (listed a)); rows = ap stale_rows is ∙ rows_dropped a.size (listed a) a.sound }

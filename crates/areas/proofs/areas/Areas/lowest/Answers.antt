@@ -19,7 +19,7 @@ pub loop-i-preserved : goal.loop-i-preserved
 loop-i-preserved c =
     let a = c.args.self.now in
     let i = c.loop-i.i in
-    let here = ap (numbered (i + 1)) (listed_at a i c.loop-i-test.true) ∙ sym c.numbered-found.ensures ∙ c.in-default.is in
+    let here = ap (numbered (i + 1)) (listed_at a i c.loop-i-test.true) ∙ sym c.numbered-found.ensures ∙ c.in_default.is in
     lowest_more (listed a) i (i + 1) (omega (arith, length_listed a)) here ∙ c.loop-i.invariant
 
 pub returns : goal.returns

@@ -8,5 +8,5 @@ use Rattle.areas.proofs.areas.Areas.next.Goals as goal
 pub returns : goal.returns
 returns c =
     let a = c.args.self.now in
-    let is : c.top-row.result ≡ next_of (listed a) = c.top-row.ensures ∙ ap top_row c.lowest.ensures.answer in
+    let is : c.top_row.result ≡ next_of (listed a) = c.top_row.ensures ∙ ap top_row c.lowest.ensures.answer in
     record { answer = is; meaning = subst (NextIs (listed a)) (sym is) (next_is a.size (listed a) a.sound) }

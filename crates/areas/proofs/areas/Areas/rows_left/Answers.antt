@@ -13,8 +13,8 @@ pub loop-i-init : goal.loop-i-init
 unfolding stale_rows
 loop-i-init c = (refl, omega arith)
 
-pub rows-left-requires : goal.rows-left-requires
-rows-left-requires c = λ r e.
+pub rows_left-requires : goal.rows_left-requires
+rows_left-requires c = λ r e.
     let a = c.args.self.now in
     let i = c.loop-i.i in
     let P : Area → Type 0 = λ b. area_fits a.size b ≡ true in
@@ -22,8 +22,8 @@ rows-left-requires c = λ r e.
     let f = fits_true a.size r (subst P is (on_card_at a.size (listed a) i a.sound)) in
     omega arith
 
-pub overflow-add-left : goal.overflow-add-left
-overflow-add-left c =
+pub overflow_add-left : goal.overflow_add-left
+overflow_add-left c =
     let a = c.args.self.now in
     let i = c.loop-i.i in
     let here = ap (λ (l : List Area). rows (get_or l i None)) c.listed-areas.ensures in

@@ -6,15 +6,15 @@ use Rattle.areas.proofs.Spreading.{spreads}
 use Rattle.areas.proofs.Listing.{spread_long, spread_listed, spread_sound}
 use Rattle.areas.proofs.areas.Areas.spread.Goals as goal
 
-pub invariant-of-self : goal.invariant-of-self
-invariant-of-self c =
+pub invariant_of-self : goal.invariant_of-self
+invariant_of-self c =
     let a = c.args.self.now in
-    let is = c.spread-over.ensures.areas in
+    let is = c.spread_over.ensures.areas in
     (a.wide, (a.narrow, (a.high, (a.low, (spread_long a _ _ _ is, (a.few, (spread_sound a _ _ _ is c.requires, tt)))))))
 
 pub returns : goal.returns
 returns c =
     let a = c.args.self.now in
     let ss = c.args.stages.now in
-    let out = spread_listed a _ _ _ c.spread-over.ensures.areas in
+    let out = spread_listed a _ _ _ c.spread_over.ensures.areas in
     record { size = refl; areas = out; meaning = subst (Spreads a.size ss (Holds c.args.rect) (listed a)) (sym out) (spreads a.size ss c.args.rect (listed a) c.requires a.sound) }

@@ -12,4 +12,4 @@ returns g c =
     let same = with_items_is c.args.self.now.memory c.work.new.memory (omega arith) in
     let lent : List g.row.T-Row.Denot → Type 0 = λ m. Outcome g.T.Tone.kind (state_of g.S.Selector.weight c.args.self.now.card m) (Work c.args.budget) (number c.work.result) (state_of g.S.Selector.weight c.work.new.self c.work.new.memory) in
     let left : List g.row.T-Row.Denot → Type 0 = λ m. Outcome g.T.Tone.kind (state_of g.S.Selector.weight c.args.self.now.card c.args.self.now.memory.items) (Work c.args.budget) (number c.work.result) (state_of g.S.Selector.weight c.work.new.self m) in
-    record { outcome = (c.work.result, c.work-told.ensures, subst left (sym same) (subst lent c.as-mut-slice.ensures.value c.work.ensures.outcome)); in_order = search rules }
+    record { outcome = (c.work.result, c.work_told.ensures, subst left (sym same) (subst lent c.as_mut_slice.ensures.value c.work.ensures.outcome)); in_order = search rules }

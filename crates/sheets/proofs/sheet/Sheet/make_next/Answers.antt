@@ -9,20 +9,20 @@ use Rattle.sheets.specs.Meanings.{notes_of}
 use Rattle.sheets.proofs.Tasks.{task_none, plane_within, made_by, weighed_by}
 use Rattle.sheets.proofs.sheet.Sheet.make_next.Goals as goal
 
-pub returns-in-default : goal.returns-in-default
-returns-in-default g c =
+pub returns-in_default : goal.returns-in_default
+returns-in_default g c =
     let k = g.T.Tone.kind in
     let s = c.args.self.now in
-    let none : task (notes_of s) ≡ None = task_none 0 1 (notes_of s).recipe (notes_of s).areas (sym c.in-default.ensures.answer) in
+    let none : task (notes_of s) ≡ None = task_none 0 1 (notes_of s).recipe (notes_of s).areas (sym c.in_default.ensures.answer) in
     record {
       memory = sym (ap (λ t. task_made k s.areas.size t c.args.memory.now) none);
       weights = λ d. sym (ap (λ t. task_weights k s.areas.size t c.args.memory.now (g.S.Selector.weight c.args.selector.now) d) none);
-      range-kept = refl;
+      range_kept = refl;
       in_order = c.requires.order;
     }
 
-pub make-row-requires : goal.make-row-requires
-make-row-requires g c =
+pub make_row-requires : goal.make_row-requires
+make_row-requires g c =
     let s = c.args.self.now in
     let k = c.in-Some.stage in
     let is = sym c.in-Some.ensures.answer in
@@ -47,8 +47,8 @@ returns g c =
     let s = c.args.self.now in
     let is = sym c.in-Some.ensures.answer in
     record {
-      memory = made_by k (notes_of s) c.in-Some.stage c.in-Some.rect s.matched is c.size-size.result c.stages.result.now c.size-size.ensures.value c.stages.ensures.stages c.args.memory.now _ c.make-row.ensures.memory;
-      weights = λ d. weighed_by k (notes_of s) c.in-Some.stage c.in-Some.rect s.matched is c.size-size.result c.stages.result.now c.size-size.ensures.value c.stages.ensures.stages c.args.memory.now (g.S.Selector.weight c.args.selector.now) d _ (λ t. c.make-row.ensures.weights t d);
-      range-kept = c.make-row.ensures.range-kept;
-      in_order = c.make-row.ensures.in_order;
+      memory = made_by k (notes_of s) c.in-Some.stage c.in-Some.rect s.matched is c.size-size.result c.stages.result.now c.size-size.ensures.value c.stages.ensures.stages c.args.memory.now _ c.make_row.ensures.memory;
+      weights = λ d. weighed_by k (notes_of s) c.in-Some.stage c.in-Some.rect s.matched is c.size-size.result c.stages.result.now c.size-size.ensures.value c.stages.ensures.stages c.args.memory.now (g.S.Selector.weight c.args.selector.now) d _ (λ t. c.make_row.ensures.weights t d);
+      range_kept = c.make_row.ensures.range_kept;
+      in_order = c.make_row.ensures.in_order;
     }

@@ -3,6 +3,6 @@ use Rattle.areas.proofs.Walks.{length_dropped}
 use Rattle.areas.specs.Listed.{listed}
 use Rattle.sheets.proofs.sheet.Sheet.redo.Goals as goal
 
-pub invariant-of-self : goal.invariant-of-self
-invariant-of-self g c =
-    let s = c.args.self.now in (s.few, (s.fits, (ap length c.drop-row.ensures.areas ∙ (length_dropped (listed s.areas) ∙ s.matched), tt)))
+pub invariant_of-self : goal.invariant_of-self
+invariant_of-self g c =
+    let s = c.args.self.now in (s.few, (s.fits, (ap length c.drop_row.ensures.areas ∙ (length_dropped (listed s.areas) ∙ s.matched), tt)))

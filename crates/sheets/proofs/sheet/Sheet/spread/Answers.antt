@@ -3,6 +3,6 @@ use Rattle.areas.proofs.Walks.{length_spread}
 use Rattle.areas.specs.Listed.{listed}
 use Rattle.sheets.proofs.sheet.Sheet.spread.Goals as goal
 
-pub invariant-of-self : goal.invariant-of-self
-invariant-of-self c =
+pub invariant_of-self : goal.invariant_of-self
+invariant_of-self c =
     let s = c.args.self.now in (s.few, (s.fits, (ap length c.spread.ensures.areas ∙ (length_spread s.areas.size c.stages.result.now c.args.rect (listed s.areas) ∙ s.matched), tt)))

@@ -30,7 +30,7 @@ loop-done-preserved g c =
     let m = c.loop-done.memory in
     let e = c.redo.ensures in (
       e.in_order,
-      e.range-kept ∙ inv.1,
+      e.range_kept ∙ inv.1,
       notes_more k i from n m inv.2 inv.3 _ e.notes,
       memory_more k i from n m inv.2 inv.3 _ e.memory,
       λ d. weights_more k i from n m inv.2 inv.3 (g.S.Selector.weight c.loop-done.selector) d _ (inv.4 d) (e.weights d),
