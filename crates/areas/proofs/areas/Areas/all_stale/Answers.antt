@@ -10,7 +10,7 @@ invariant_of-result c =
     let l = take_same ss 8 (Some c.whole.result) c.requires.few ∙ ap (λ r. map (λ s. Some r) ss) c.whole.ensures in
     let sound : on_card c.args.size (take (length ss) (replicate 8 (Some c.whole.result))) ≡ true = rw l (on_card_all c.args.size ss c.requires.size) in
     let s = c.requires.size in
-    (s.wide, (s.not_too_wide, (s.high, (s.not_too_high, (refl, (c.requires.few, (sound, tt)))))))
+    record { wide = s.wide; narrow = s.not_too_wide; high = s.high; low = s.not_too_high; long = refl; few = c.requires.few; sound = sound }
 
 pub returns : goal.returns
 returns c =

@@ -24,7 +24,7 @@ invariant_of-self c =
     let r = c.in-Some.rect in
     let long : length c.drop_top.new.areas ≡ 8 = rw c.drop_top.ensures (drop_long a k r is) in
     let sound : on_card a.size (take a.count c.drop_top.new.areas) ≡ true = rw c.drop_top.ensures (drop_sound a k r is) in
-    (a.wide, (a.narrow, (a.high, (a.low, (long, (a.few, (sound, tt)))))))
+    record { wide = a.wide; narrow = a.narrow; high = a.high; low = a.low; long = long; few = a.few; sound = sound }
 
 pub returns-in-Some : goal.returns-in-Some
 returns-in-Some c =

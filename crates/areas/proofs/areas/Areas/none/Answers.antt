@@ -4,4 +4,12 @@ use Rattle.areas.proofs.areas.Areas.none.Goals as goal
 
 pub invariant_of-result : goal.invariant_of-result
 unfolding on_card
-invariant_of-result c = (c.requires.wide, (c.requires.not_too_wide, (c.requires.high, (c.requires.not_too_high, (refl, (omega arith, (refl, tt)))))))
+invariant_of-result c = record {
+  wide = c.requires.wide;
+  narrow = c.requires.not_too_wide;
+  high = c.requires.high;
+  low = c.requires.not_too_high;
+  long = refl;
+  few = omega arith;
+  sound = refl;
+}

@@ -13,8 +13,8 @@ pub loop-i-init : goal.loop-i-init
 unfolding stale_rows
 loop-i-init c = (refl, omega arith)
 
-pub rows_left-requires : goal.rows_left-requires
-rows_left-requires c = λ r e.
+pub rows-left-requires : goal.rows-left-requires
+rows-left-requires c = λ r e.
     let a = c.args.self.now in
     let i = c.loop-i.i in
     let P : Area → Type 0 = λ b. area_fits a.size b ≡ true in

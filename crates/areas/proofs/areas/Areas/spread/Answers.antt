@@ -10,7 +10,7 @@ pub invariant_of-self : goal.invariant_of-self
 invariant_of-self c =
     let a = c.args.self.now in
     let is = c.spread_over.ensures.areas in
-    (a.wide, (a.narrow, (a.high, (a.low, (spread_long a _ _ _ is, (a.few, (spread_sound a _ _ _ is c.requires, tt)))))))
+    record { wide = a.wide; narrow = a.narrow; high = a.high; low = a.low; long = spread_long a _ _ _ is; few = a.few; sound = spread_sound a _ _ _ is c.requires }
 
 pub returns : goal.returns
 returns c =
