@@ -16,21 +16,21 @@ use tones::Tone;
 
 /// Puts a code that is below the range, with weight, where there is room for it: it is not refused.
 fn put<S: Selector>(selector: &mut S, code: u32, amount: u32)
-    requires order { ordered selector.old }
-    requires fit { (code < range selector.old) × ((0 < amount) × (amount ≤ 49)) }
-    requires room { Room (weight selector.old) (range selector.old) }
-    ensures weights { (c : ℕ) → weight selector.new c ≡ added (weight selector.old) code amount c }
-    ensures range_kept { range selector.new ≡ range selector.old }
-    ensures in_order { ordered selector.new }
+    requires order { S.ordered selector.old }
+    requires fit { (code < S.range selector.old) × ((0 < amount) × (amount ≤ 49)) }
+    requires room { Room (S.weight selector.old) (S.range selector.old) }
+    ensures weights { (c : ℕ) → S.weight selector.new c ≡ added (S.weight selector.old) code amount c }
+    ensures range_kept { S.range selector.new ≡ S.range selector.old }
+    ensures in_order { S.ordered selector.new }
 {
     selector.put(code, amount).unwrap()
 }
 
 /// The code at a rank that the selector has: it is not refused.
 fn select<S: Selector>(selector: &S, rank: u32) -> u32
-    requires order { ordered selector.now }
-    requires fit { (0 < rank) × (rank ≤ below (weight selector.now) (range selector.now)) }
-    ensures { Ranked (weight selector.now) rank result }
+    requires order { S.ordered selector.now }
+    requires fit { (0 < rank) × (rank ≤ below (S.weight selector.now) (S.range selector.now)) }
+    ensures { Ranked (S.weight selector.now) rank result }
 {
     selector.select(rank).unwrap()
 }

@@ -23,14 +23,14 @@ pub(crate) fn code_at<T: Tone>(plane: &[T::Row], size: Size, x: usize, y: usize,
     requires plane { length plane.now ≡ area size }
     requires column { x < size.width }
     requires row { y < size.height }
-    ensures { result ≡ kind.code (kind.lowered (picture kind size 0 plane.now x y) amount) }
+    ensures { result ≡ T.kind.code (T.kind.lowered (picture T.kind size 0 plane.now x y) amount) }
 {
     lowered::<T>(T::of_row(plane[size.cell(x, y)]), amount).code()
 }
 
 /// A tone lowered by an amount, which is 0 most of the time.
 fn lowered<T: Tone>(tone: T, amount: i32) -> T
-    ensures { result ≡ kind.lowered tone amount }
+    ensures { result ≡ T.kind.lowered tone amount }
 {
     if amount == 0 {
         tone
