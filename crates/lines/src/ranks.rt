@@ -9,11 +9,11 @@ use selectors::Selector;
 
 /// Makes the call, and tells what it answers.
 pub fn rank<S: Selector>(selector: &mut S, ranking: Ranking) -> Answer
-    requires { ordered selector.old }
-    ensures answer { Answered (weight selector.old) (range selector.old) ranking result }
-    ensures weights { (c : ℕ) → weight selector.new c ≡ after (weight selector.old) (range selector.old) ranking c }
-    ensures range_kept { range selector.new ≡ range selector.old }
-    ensures in_order { ordered selector.new }
+    requires { S.ordered selector.old }
+    ensures answer { Answered (S.weight selector.old) (S.range selector.old) ranking result }
+    ensures weights { (c : ℕ) → S.weight selector.new c ≡ after (S.weight selector.old) (S.range selector.old) ranking c }
+    ensures range_kept { S.range selector.new ≡ S.range selector.old }
+    ensures in_order { S.ordered selector.new }
 {
     match ranking {
         Ranking::Put(code, weight) => match selector.put(code, weight) {
