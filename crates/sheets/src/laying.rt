@@ -11,7 +11,7 @@ use tones::Tone;
 /// Writes tones into memory from a place on, each as the row of the tone that it counts as.
 fn lay_row<T: Tone>(memory: &mut [T::Row], at: usize, tones: &[T::Row])
     requires { at + length tones.now ≤ length memory.old }
-    ensures { memory.new ≡ overwritten memory.old at (map (λ r. kind.row (kind.counted r)) tones.now) }
+    ensures { memory.new ≡ overwritten memory.old at (map (λ r. T.kind.row (T.kind.counted r)) tones.now) }
 {
     for (i, tone) in tones.iter().enumerate() {
         memory[at + i] = T::of_row(*tone).row();
@@ -43,7 +43,7 @@ pub(crate) fn lay<T: Tone>(
     requires rows { y + height ≤ size.height }
     requires count { length tones.now ≡ width * height }
     requires room { area size ≤ length memory.old }
-    ensures { memory.new ≡ laid kind size x y width tones.now memory.old height }
+    ensures { memory.new ≡ laid T.kind size x y width tones.now memory.old height }
 {
     for i in 0..height {
         lay_row::<T>(memory, size.cell(x, y + i), row_of(tones, width, i));

@@ -5,4 +5,4 @@ use Rattle.sheets.proofs.sheet.Sheet.redo.Goals as goal
 
 pub invariant_of-self : goal.invariant_of-self
 invariant_of-self g c =
-    let s = c.args.self.now in (s.few, (s.fits, (ap length c.drop_row.ensures.areas ∙ (length_dropped (listed s.areas) ∙ s.matched), tt)))
+    let s = c.args.self.now in record { few = s.few; fits = s.fits; matched = ap length c.drop_row.ensures.areas ∙ (length_dropped (listed s.areas) ∙ s.matched) }

@@ -5,4 +5,4 @@ use Rattle.sheets.proofs.sheet.Sheet.spread.Goals as goal
 
 pub invariant_of-self : goal.invariant_of-self
 invariant_of-self c =
-    let s = c.args.self.now in (s.few, (s.fits, (ap length c.spread.ensures.areas ∙ (length_spread s.areas.size c.stages.result.now c.args.rect (listed s.areas) ∙ s.matched), tt)))
+    let s = c.args.self.now in record { few = s.few; fits = s.fits; matched = ap length c.spread.ensures.areas ∙ (length_spread s.areas.size c.stages.result.now c.args.rect (listed s.areas) ∙ s.matched) }

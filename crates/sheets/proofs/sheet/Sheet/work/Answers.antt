@@ -17,7 +17,7 @@ redo-requires g c =
     record {
       order = inv.0;
       codes = omega (arith, inv.1, c.requires.codes);
-      room = omega (arith, c.loop-done.auto.memory, c.requires.room, ap room inv.2, redone_room g.T.Tone.kind c.loop-done.-done from);
+      room = omega (arith, c.loop-done.auto.memory, c.requires.room, ap room inv.2, redone_room g.T.Tone.kind c.loop-done._done from);
     }
 
 pub loop-done-preserved : goal.loop-done-preserved
@@ -25,7 +25,7 @@ loop-done-preserved g c =
     let k = g.T.Tone.kind in
     let from = open_of c.args.self.now (g.S.Selector.weight c.args.selector.now) c.args.memory.now in
     let inv = c.loop-done.invariant in
-    let i = c.loop-done.-done in
+    let i = c.loop-done._done in
     let n = notes_of c.loop-done.self in
     let m = c.loop-done.memory in
     let e = c.redo.ensures in (

@@ -11,6 +11,6 @@ invariant-loop-done g l =
     let from = open_of l.initial.self (s.weight l.initial.selector) l.initial.memory in
     s.ordered l.selector
     × (s.range l.selector ≡ s.range l.initial.selector)
-    × (notes_of l.self ≡ (redone_rows k l.-done from).notes)
-    × (l.memory ≡ (redone_rows k l.-done from).memory)
-    × ((c : ℕ) → s.weight l.selector c ≡ (redone_rows k l.-done from).weights c)
+    × (notes_of l.self ≡ (redone_rows k l._done from).notes)
+    × (l.memory ≡ (redone_rows k l._done from).memory)
+    × ((c : ℕ) → s.weight l.selector c ≡ (redone_rows k l._done from).weights c)
