@@ -7,11 +7,11 @@ use selectors::Selector;
 
 /// Makes the call, and answers what it answers.
 pub fn play<S: Selector>(selector: &mut S, call: Call) -> Answer
-    requires { ordered selector.old }
-    ensures answer { Answered (weight selector.old) (range selector.old) call result }
-    ensures weights { (c : ℕ) → weight selector.new c ≡ after (weight selector.old) (range selector.old) call c }
-    ensures range_kept { range selector.new ≡ range selector.old }
-    ensures in_order { ordered selector.new }
+    requires { S.ordered selector.old }
+    ensures answer { Answered (S.weight selector.old) (S.range selector.old) call result }
+    ensures weights { (c : ℕ) → S.weight selector.new c ≡ after (S.weight selector.old) (S.range selector.old) call c }
+    ensures range_kept { S.range selector.new ≡ S.range selector.old }
+    ensures in_order { S.ordered selector.new }
 {
     match call {
         Call::Put(code, weight) => match selector.put(code, weight) {
