@@ -62,7 +62,7 @@ fn sessions(rt: &HostRuntime, evening: &mut Evening) -> io::Result<usize> {
 
 fn main(rt: HostRuntime) -> io::Result<()> {
     let mut evening = Evening {
-        script: Script::new(&rt),
+        script: Script::new(&rt)?,
         desk: Desk::new(),
         tally: Tally::new(),
     };

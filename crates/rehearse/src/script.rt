@@ -17,11 +17,11 @@ pub struct Script {
 
 impl Script {
     /// The script on standard input.
-    pub fn new(rt: &HostRuntime) -> Script {
-        Script {
-            input: BufReader::new(rt.stdin()),
+    pub fn new(rt: &HostRuntime) -> io::Result<Script> {
+        Ok(Script {
+            input: BufReader::new(rt.alloc(), rt.stdin())?,
             line: Vec::new(rt.alloc()),
-        }
+        })
     }
 
     /// Goes to the next line; false at the end.
