@@ -1,5 +1,5 @@
 -- Rectangles and areas that lie on the card.
-use Rattle.std.proofs.Common.{◌≡◌, ℕ, zero, suc, ◌+◌, ◌-◌, true, ltb, List, [], ◌∷◌, get_or, set, Some, None, refl, arith}
+use Rattle.std.proofs.Common.{◌≡◌, ℕ, zero, suc, ◌+◌, true, ltb, List, [], ◌∷◌, get_or, set, Some, None, refl, arith}
 use Rattle.std.proofs.lemmas.Bool.Decides.{nat_tests}
 use Rattle.std.proofs.lemmas.Bool.{and_parts, and_from, cond_both, ltb-true}
 use Rattle.planes.specs.declared.size.Size.{Size}

@@ -1,6 +1,5 @@
 -- Whatever the grammar says of a file, the machine finds it: so a file has one reading at most.
-use Rattle.std.proofs.Common.{◌≡◌, ℕ, zero, suc, ◌+◌, ◌-◌, ◌*◌, ◌<◌, ◌≤◌, min, Bool, true, false, cond, ◌&&◌, eqb, leb, ◌⊎◌, List, [], ◌∷◌, ◌++◌, length, get_or, drop, Some, None, Ok, Err, Result, sym, refl, ap, ◌∙◌, subst, inl, inr, true≢false, add-one, arith}
-use mathlib.Core.Bool.{false≢true}
+use Rattle.std.proofs.Common.{◌≡◌, ℕ, suc, ◌+◌, ◌-◌, ◌*◌, min, true, false, cond, eqb, List, [], ◌∷◌, ◌++◌, length, drop, Some, None, Ok, Err, Result, sym, refl, ap, ◌∙◌, subst, inl, inr, arith}
 use Rattle.std.proofs.lemmas.List.{append_assoc, append-nil, length_push, length-append, drop_at}
 use Rattle.std.proofs.lemmas.Bool.{both_ways, cases_Bool, ne_eqb}
 use Rattle.std.proofs.lemmas.Bool.Decides.{nat_tests}
@@ -12,11 +11,11 @@ use Rattle.pgm.specs.Grammar.Gap.{one as one_white, more as more_white, comment 
 use Rattle.pgm.specs.Grammar.Digits.{one as one_digit, more as more_digits}
 use Rattle.pgm.specs.Grammar.Short.{nothing, in_mark, after_mark as short_mark, in_gap as short_gap, in_comment as short_comment, after_number as short_number}
 use Rattle.pgm.specs.Grammar.Fault.{no_P as fault_P, no_5 as fault_5, after_mark as fault_mark, in_gap as fault_gap, after_number as fault_behind, number as fault_number, early, missing, extra, tone}
-use Rattle.pgm.specs.Reading.{Reading, Reads, OneReading}
+use Rattle.pgm.specs.Reading.{Reading, Reads}
 use Rattle.pgm.specs.Reading.Reading.{Shows, Faulty}
-use Rattle.pgm.specs.Machine.{taken, runs, after, marked, gapped, numbered, commented, closed, moved_on, number, within_limits, limit, grown, closing, outcome, final, FirstAbove, Unsampled}
+use Rattle.pgm.specs.Machine.{taken, runs, after, marked, gapped, numbered, commented, closed, moved_on, number, within_limits, closing, outcome, final, FirstAbove, Unsampled}
 use Rattle.pgm.specs.declared.bytes.Class.{Class}
-use Rattle.pgm.specs.declared.bytes.Class.TheVariants.{Line, Blank, Digit, Hash, Letter, Other}
+use Rattle.pgm.specs.declared.bytes.Class.TheVariants.{Line, Blank, Digit}
 use Rattle.pgm.specs.declared.faults.HeaderFault.{HeaderFault}
 use Rattle.pgm.specs.declared.faults.HeaderFault.TheVariants.{Mark as MarkFault, Byte, Number as NumberFault, Early}
 use Rattle.pgm.specs.declared.faults.FileFault.{FileFault}
@@ -25,7 +24,7 @@ use Rattle.pgm.specs.declared.machine.Known.{Known}
 use Rattle.pgm.specs.declared.machine.Known.TheVariants.{Nothing, Width, Size}
 use Rattle.pgm.specs.declared.machine.Header.{Header}
 use Rattle.pgm.specs.declared.machine.State.{State}
-use Rattle.pgm.specs.declared.machine.State.TheVariants.{Mark, Gap, Number, Comment, Raster, Refused}
+use Rattle.pgm.specs.declared.machine.State.TheVariants.{Mark, Gap, Comment, Raster, Refused}
 use Rattle.pgm.proofs.Sorts.{Sort, sort}
 use Rattle.pgm.proofs.Sorts.Sort.{a_line, a_blank, a_digit, a_hash, a_letter, another}
 use Rattle.pgm.proofs.Sound.{held_more, limit_most, most_below, lawful}

@@ -1,13 +1,11 @@
 -- A file is read as its header and its samples are judged, and in no other way.
-use Rattle.std.proofs.Common.{◌≡◌, ℕ, ◌+◌, ◌-◌, ◌*◌, ◌<◌, ◌≤◌, ◌⊎◌, List, ◌++◌, length, get_or, drop, Some, None, Ok, Err, Result, sym, refl, ap, ◌∙◌, subst, inl, inr, arith}
+use Rattle.std.proofs.Common.{◌≡◌, ℕ, ◌+◌, List, ◌++◌, length, drop, Some, None, Ok, Err, Result, sym, ap, ◌∙◌, subst, inl, inr, arith}
 use Rattle.std.proofs.lemmas.List.{length-append, drop_at}
 use Rattle.std.proofs.lemmas.Bool.{cases_order}
-use Rattle.pgm.specs.Grammar.{Fault}
 use Rattle.pgm.specs.Grammar.Fault.{missing, extra, tone}
-use Rattle.pgm.specs.Machine.{outcome, FirstAbove, Unsampled}
+use Rattle.pgm.specs.Machine.{outcome, FirstAbove}
 use Rattle.pgm.specs.Reading.{Reading, Reads, OneReading}
 use Rattle.pgm.specs.Reading.Reading.{Shows, Faulty}
-use Rattle.pgm.specs.declared.faults.FileFault.{FileFault}
 use Rattle.pgm.specs.declared.faults.FileFault.TheVariants.{Header as InHeader, Count, Sample}
 use Rattle.pgm.specs.declared.faults.HeaderFault.{HeaderFault}
 use Rattle.pgm.specs.declared.machine.Header.{Header}

@@ -1,11 +1,11 @@
 -- Whatever state the machine comes to, the bytes so far are what the grammar says there.
-use Rattle.std.proofs.Common.{◌≡◌, ℕ, zero, suc, ◌+◌, ◌-◌, ◌*◌, ◌<◌, ◌≤◌, min, Bool, true, false, cond, ◌&&◌, eqb, leb, ◌⊎◌, List, [], ◌∷◌, ◌++◌, length, Ok, Err, Result, sym, refl, ap, ◌∙◌, subst, inl, inr, add-one, arith}
+use Rattle.std.proofs.Common.{◌≡◌, ℕ, suc, ◌+◌, ◌-◌, ◌*◌, ◌<◌, min, true, false, eqb, ◌⊎◌, List, [], ◌∷◌, ◌++◌, length, Ok, Err, Result, sym, refl, ap, ◌∙◌, subst, inl, inr, arith}
 use Rattle.std.proofs.lemmas.List.{append_assoc, append-nil, length_push}
-use Rattle.std.proofs.lemmas.Bool.{eqb-true, eqb-false, cond_both}
+use Rattle.std.proofs.lemmas.Bool.{cond_both}
 use Rattle.std.proofs.lemmas.Bool.Decides.{nat_tests}
 use Rattle.pgm.specs.Bytes.{line, white, digit}
 use Rattle.pgm.specs.Classes.{class_of}
-use Rattle.pgm.specs.Grammar.{Remark, Gap as Gapped, Digits, Within, Field, P5, most, Upto, Whole, NoDigit, Short, Fault}
+use Rattle.pgm.specs.Grammar.{Remark, Gap as Gapped, Digits, Within, Field, P5, most, Upto, Whole, Fault}
 use Rattle.pgm.specs.Grammar.Remark.{none as no_remark, more as more_remark}
 use Rattle.pgm.specs.Grammar.Gap.{one as one_white, more as more_white, comment as one_comment}
 use Rattle.pgm.specs.Grammar.Digits.{one as one_digit, more as more_digits}
@@ -13,7 +13,6 @@ use Rattle.pgm.specs.Grammar.Short.{nothing, in_mark, after_mark as short_mark, 
 use Rattle.pgm.specs.Grammar.Fault.{no_P as fault_P, no_5 as fault_5, after_mark as fault_mark, in_gap as fault_gap, after_number as fault_behind, number as fault_number, early}
 use Rattle.pgm.specs.Machine.{taken, runs, after, marked, gapped, numbered, commented, closed, moved_on, within_limits, limit, grown, closing, outcome}
 use Rattle.pgm.specs.declared.bytes.Class.{Class}
-use Rattle.pgm.specs.declared.bytes.Class.TheVariants.{Line, Blank, Digit, Hash, Letter, Other}
 use Rattle.pgm.specs.declared.faults.HeaderFault.{HeaderFault}
 use Rattle.pgm.specs.declared.faults.HeaderFault.TheVariants.{Mark as MarkFault, Byte, Number as NumberFault, Early}
 use Rattle.pgm.specs.declared.faults.FileFault.TheVariants.{Header as InHeader}

@@ -1,13 +1,13 @@
 -- How the header machine steps through a file.
-use Rattle.std.proofs.Common.{◌≡◌, ℕ, zero, suc, ◌+◌, ◌<◌, ◌≤◌, Bool, true, false, cond, eqb, List, [], ◌∷◌, ◌++◌, length, get_or, drop, IfOk, Some, Result, sym, refl, ap, ◌∙◌, true≢false, add-one, arith, drop-cons}
+use Rattle.std.proofs.Common.{◌≡◌, ℕ, suc, ◌+◌, ◌<◌, ◌≤◌, Bool, true, false, cond, eqb, List, [], ◌∷◌, length, get_or, drop, IfOk, Some, Result, sym, refl, ap, ◌∙◌, true≢false, add-one, drop-cons}
 use mathlib.Core.Bool.{false≢true}
 use Rattle.std.proofs.lemmas.List.{drop_all}
 use Rattle.pgm.specs.Classes.{class_of}
-use Rattle.pgm.specs.Machine.{Advanced, taken, runs, after, final, closing, marked, closed, moved_on, within_limits, is_letter, is_five, white_class}
+use Rattle.pgm.specs.Machine.{Advanced, taken, runs, after, final, closing, moved_on, within_limits, is_letter, is_five, white_class}
 use Rattle.pgm.specs.declared.bytes.Class.{Class}
 use Rattle.pgm.specs.declared.bytes.Class.TheVariants.{Line, Blank, Digit, Hash, Letter, Other}
 use Rattle.pgm.specs.declared.faults.HeaderFault.{HeaderFault}
-use Rattle.pgm.specs.declared.faults.HeaderFault.TheVariants.{Mark as MarkFault, Byte, Number as NumberFault, Early}
+use Rattle.pgm.specs.declared.faults.HeaderFault.TheVariants.{Mark as MarkFault, Byte, Number as NumberFault}
 use Rattle.pgm.specs.declared.machine.Known.{Known}
 use Rattle.pgm.specs.declared.machine.Known.TheVariants.{Nothing, Width, Size}
 use Rattle.pgm.specs.declared.machine.Header.{Header}

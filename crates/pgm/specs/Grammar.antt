@@ -1,7 +1,6 @@
 -- The raw PGM format: what a file is, and what is wrong with one that is none.
 use Rattle.std.specs.Prelude.{◌≡◌, ℕ, ◌+◌, ◌-◌, ◌*◌, ◌<◌, ◌≤◌, true, false, List, [], ◌∷◌, ◌++◌, length, ◌≢◌, slice_index}
 use Rattle.pgm.specs.Bytes.{line, white, digit}
-use Rattle.pgm.specs.declared.faults.HeaderFault.{HeaderFault}
 use Rattle.pgm.specs.declared.faults.HeaderFault.TheVariants.{Mark, Byte, Number, Early}
 use Rattle.pgm.specs.declared.faults.FileFault.{FileFault}
 use Rattle.pgm.specs.declared.faults.FileFault.TheVariants.{Header, Count, Sample}

@@ -1,6 +1,5 @@
 -- How large an area is, and that a cell lies in it.
-use mathlib.Core.Path.{◌≡◌}
-use Prim.Native.Nat.{ℕ, suc, ◌+◌, ◌*◌, ◌<◌, ◌≤◌}
+use Prim.Native.Nat.{ℕ, ◌<◌, ◌≤◌}
 use native.Mathlib.Nat.{mul-le-mul, mul-le-mul_right, mul_comm, suc-mul}
 use native.Mathlib.Omega.{arith}
 use Rattle.planes.specs.Sizes.{Limits, area, cell}

@@ -1,5 +1,5 @@
 -- A change of an element's array, as a change of its list of places.
-use Rattle.std.proofs.Common.{◌≡◌, ℕ, ◌+◌, ◌<◌, ◌≤◌, Bool, true, false, List, [], ◌∷◌, ◌++◌, map, length, take, set, ℤ, sym, ◌∙◌, subst, arith}
+use Rattle.std.proofs.Common.{◌≡◌, ◌+◌, ◌<◌, true, false, [], ◌∷◌, ◌++◌, map, length, take, set, ℤ, ◌∙◌, arith}
 use Rattle.std.proofs.lemmas.List.{length-set, length-take-le, length-map, take_more_set, take-map}
 use Rattle.recipes.specs.declared.places.Place.{Place}
 use Rattle.recipes.specs.declared.element.Element.{Element}

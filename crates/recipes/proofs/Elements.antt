@@ -1,8 +1,8 @@
 -- What is known of every element.
-use Rattle.std.proofs.Common.{◌≡◌, ℕ, ◌+◌, ◌*◌, ◌<◌, ◌≤◌, max, Bool, true, false, ◌&&◌, List, [], ◌∷◌, ◌++◌, length, get_or, take, ℤ, pos, nat_abs, count_by, sym, refl, ap, ◌∙◌, ⊎_elim, arith}
+use Rattle.std.proofs.Common.{◌≡◌, ℕ, ◌+◌, ◌<◌, ◌≤◌, max, true, ◌&&◌, List, [], ◌∷◌, ◌++◌, length, get_or, take, ℤ, pos, nat_abs, refl, ⊎_elim, arith}
 use Rattle.std.specs.List.{ContainsAt as Has, AllByRecursion as All}
 use Rattle.std.proofs.lemmas.List.{take_more}
-use Rattle.std.proofs.ByRecursion.{All-get_or, All-weaker, all-has, has_append_right}
+use Rattle.std.proofs.ByRecursion.{All-get_or, All-weaker, has_append_right}
 use Rattle.std.proofs.lemmas.Bool.Decides.{nat_tests}
 use Rattle.std.proofs.lemmas.Bool.{and_parts, cases_lt}
 use Rattle.recipes.specs.declared.places.Place.{Place}
@@ -13,7 +13,7 @@ use Rattle.recipes.specs.Placed.{placed}
 use Rattle.recipes.specs.Reaches.{reach, Greatest}
 use Rattle.recipes.proofs.Passing.{any_has}
 use Rattle.recipes.proofs.Room.{limits}
-use Rattle.recipes.proofs.Keeps.{Sound, sound}
+use Rattle.recipes.proofs.Keeps.{sound}
 use Rattle.recipes.proofs.Arrays.{length_placed}
 
 pub placed_few : (e : Element) → length (placed e) ≤ 49

@@ -1,6 +1,5 @@
 -- The stages of steps, and a recipe's array as a list.
-use Rattle.std.proofs.Common.{◌≡◌, ℕ, ◌+◌, ◌*◌, ◌<◌, ◌≤◌, List, [], ◌∷◌, ◌++◌, length, get_or, take, sym, refl, ap, ◌∙◌, arith}
-use Rattle.std.specs.List.{flat_map}
+use Rattle.std.proofs.Common.{◌≡◌, ℕ, ◌+◌, ◌*◌, ◌<◌, ◌≤◌, List, [], ◌∷◌, ◌++◌, length, get_or, take, arith}
 use Rattle.std.proofs.lemmas.List.{length-take-le, length-append, append_assoc, take_more, flat_map_more}
 use Rattle.recipes.specs.declared.draft.Letter.{Letter}
 use Rattle.recipes.specs.declared.draft.Letter.TheVariants.{Erosion, Dilation, Opening, Closing}

@@ -1,13 +1,12 @@
 -- Which places a standard shape has.
-use Rattle.std.proofs.Common.{◌≡◌, ℕ, zero, suc, ◌<◌, ◌≤◌, Bool, true, false, cond, List, [], ◌∷◌, ◌++◌, map, length, get_or, ℤ, pos, negsuc, nat_abs, filter, sym, refl, ap, ◌∙◌, subst, arith}
+use Rattle.std.proofs.Common.{◌≡◌, zero, suc, ◌≤◌, Bool, true, false, cond, List, [], ◌∷◌, map, ℤ, pos, negsuc, nat_abs, filter, sym, refl, ap, ◌∙◌, subst, arith}
 use Rattle.std.specs.List.{flat_map, ContainsAt as Has, AllByRecursion as All}
 use Rattle.std.proofs.ByRecursion.{All-weaker, All-map, All-append, all-has, all_kept_by, kept_by_passes, has_append_left, has_append_right}
 use Rattle.std.proofs.lemmas.List.{length-map, get_or-map}
 use Rattle.std.proofs.lemmas.Bool.Decides.{nat_tests}
-use Rattle.recipes.specs.declared.places.Place.{Place}
 use Rattle.recipes.specs.declared.shapes.Shape.{Shape}
 use Rattle.recipes.specs.declared.shapes.Shape.TheVariants.{Cross, Square3, Octagon5, Square7}
-use Rattle.recipes.specs.Shapes.{in_shape, standard_place, standard_places, grid, offsets, Belongs, Members}
+use Rattle.recipes.specs.Shapes.{in_shape, standard_place, standard_places, grid, offsets, Members}
 
 -- a filter keeps what passes
 has_kept_by : {X : Type 0} (test : X → Bool) (xs : List X) → All (λ x. test x ≡ true → Has (filter test xs) x) xs

@@ -1,12 +1,12 @@
 -- At most 49 places within the limits stand apart.
-use Rattle.std.proofs.Common.{◌≡◌, ℕ, zero, suc, ◌+◌, ◌-◌, ◌*◌, ◌<◌, ◌≤◌, Bool, true, false, cond, not, ◌&&◌, ◌||◌, eqb, ltb, leb, List, [], ◌∷◌, ◌++◌, map, length, ℤ, pos, negsuc, nat_abs, count_by, sym, refl, ap, ◌∙◌, arith}
+use Rattle.std.proofs.Common.{◌≡◌, ℕ, zero, suc, ◌+◌, ◌-◌, ◌*◌, ◌<◌, ◌≤◌, Bool, true, false, cond, not, ◌&&◌, eqb, ltb, leb, List, [], ◌∷◌, length, ℤ, pos, negsuc, nat_abs, count_by, refl, ap, arith}
 use Rattle.std.proofs.lemmas.List.Sums.{sum_by-cons}
 use Rattle.std.proofs.lemmas.Bool.Decides.{nat_tests}
-use Rattle.std.proofs.lemmas.Bool.{and_parts, or_parts, leb-true, lt-ltb, eqb-true, cases_Bool, not-true, both_ways, eq-eqb}
+use Rattle.std.proofs.lemmas.Bool.{and_parts, or_parts, leb-true, lt-ltb, eqb-true, not-true, both_ways}
 use Rattle.recipes.specs.declared.places.Place.{Place}
-use Rattle.recipes.specs.Places.{any, all, same, stands_at, taken, in_limits, limited, Limits}
+use Rattle.recipes.specs.Places.{any, all, stands_at, taken, limited, Limits}
 use Rattle.recipes.specs.Lawful.{apart}
-use Rattle.recipes.proofs.Spots.{same_from, same_itself, stands_flip}
+use Rattle.recipes.proofs.Spots.{same_itself}
 
 -- what the limits say
 pub limits : (p : Place) → limited p ≡ true → Limits p

@@ -1,8 +1,8 @@
 -- Where places stand.
-use Rattle.std.proofs.Common.{◌≡◌, ℕ, ◌+◌, ◌<◌, ◌≤◌, Bool, true, false, not, ◌&&◌, ◌||◌, eqb, List, [], ◌∷◌, ◌++◌, map, ℤ, pos, negsuc, nat_abs, sym, refl, ap, ◌∙◌, arith}
+use Rattle.std.proofs.Common.{◌≡◌, true, ℤ, pos, negsuc, refl, ap, arith}
 use Rattle.std.proofs.lemmas.Bool.Decides.{nat_tests}
 use Rattle.recipes.specs.declared.places.Place.{Place}
-use Rattle.recipes.specs.Places.{any, same, stands_at, taken}
+use Rattle.recipes.specs.Places.{same, stands_at}
 
 pub same_from : (a b : ℤ) → same a b ≡ true → a ≡ b
 same_from (pos a) (pos b) e = ap pos (grind (arith, nat_tests))

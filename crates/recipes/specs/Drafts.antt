@@ -1,5 +1,5 @@
 -- What the steps of a draft are, and what adding one answers and leaves. Assumes nothing.
-use Rattle.std.specs.Prelude.{ℕ, Bool, true, false, cond, ◌||◌, List, [], ◌∷◌, ◌++◌, length, take, Some, None, Ok, Err, Option, Result, ◌==◌}
+use Rattle.std.specs.Prelude.{ℕ, Bool, cond, ◌||◌, List, [], ◌∷◌, ◌++◌, length, take, Some, None, Ok, Err, Option, Result, ◌==◌}
 use Rattle.recipes.specs.declared.draft.Draft.{Draft}
 use Rattle.recipes.specs.declared.draft.Letter.{Letter}
 use Rattle.recipes.specs.declared.draft.Letter.TheVariants.{Erosion, Dilation, Opening, Closing}

@@ -1,5 +1,5 @@
 -- What each change of an element answers and leaves. Assumes nothing.
-use Rattle.std.specs.Prelude.{ℕ, Bool, true, false, cond, List, [], ◌∷◌, ℤ, Ok, Err, Result}
+use Rattle.std.specs.Prelude.{ℕ, cond, List, ℤ, Ok, Err, Result}
 use Rattle.recipes.specs.declared.places.Place.{Place}
 use Rattle.recipes.specs.declared.refusals.ElementRefusal.{ElementRefusal}
 use Rattle.recipes.specs.declared.refusals.ElementRefusal.TheVariants.{Outside, Taken, Missing, UnlawfulOrder}

@@ -1,5 +1,5 @@
 -- Which places and order make an element. Assumes nothing.
-use Rattle.std.specs.Prelude.{ℕ, ◌*◌, Bool, true, false, not, ◌&&◌, ◌||◌, List, [], ◌∷◌, length, pos, count_by, ◌==◌, nat_le, nat_lt}
+use Rattle.std.specs.Prelude.{ℕ, ◌*◌, Bool, true, not, ◌&&◌, ◌||◌, List, [], ◌∷◌, length, pos, count_by, ◌==◌, nat_le, nat_lt}
 use Rattle.recipes.specs.declared.places.Place.{Place}
 use Rattle.recipes.specs.Places.{any, all, taken, stands_at, limited, core, soft}
 

@@ -1,6 +1,5 @@
 -- What the places of a structuring element are. Assumes nothing.
-use Rattle.std.specs.Prelude.{ℕ, ◌≤◌, Bool, true, false, cond, ◌&&◌, ◌||◌, List, [], ◌∷◌, ℤ, pos, negsuc, ◌==◌, nat_le, unsigned_abs}
-use Rattle.recipes.specs.declared.places.Part.{Part}
+use Rattle.std.specs.Prelude.{◌≤◌, Bool, true, false, cond, ◌&&◌, ◌||◌, List, [], ◌∷◌, ℤ, pos, negsuc, ◌==◌, nat_le, unsigned_abs}
 use Rattle.recipes.specs.declared.places.Part.TheVariants.{Core, Soft}
 use Rattle.recipes.specs.declared.places.Place.{Place}
 

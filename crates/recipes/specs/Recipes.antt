@@ -7,7 +7,6 @@ use Rattle.recipes.specs.declared.draft.Letter.TheVariants as letter
 use Rattle.recipes.specs.declared.draft.Step.{Step}
 use Rattle.recipes.specs.declared.element.Element.{Element}
 use Rattle.recipes.specs.declared.places.Place.{Place}
-use Rattle.recipes.specs.declared.recipe.Operation.{Operation}
 use Rattle.recipes.specs.declared.recipe.Operation.TheVariants.{Erosion, Dilation}
 use Rattle.recipes.specs.declared.recipe.Recipe.{Recipe}
 use Rattle.recipes.specs.declared.recipe.Stage.{Stage}

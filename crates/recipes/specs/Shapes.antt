@@ -1,7 +1,6 @@
 -- The standard shapes. Assumes nothing.
-use Rattle.std.specs.Prelude.{◌≡◌, ℕ, ◌+◌, Bool, true, false, cond, not, ◌&&◌, List, [], ◌∷◌, map, ℤ, pos, negsuc, Some, None, Ok, Err, filter, Option, Result, ◌==◌, nat_le, unsigned_abs}
+use Rattle.std.specs.Prelude.{◌≡◌, ℕ, ◌+◌, Bool, true, cond, not, ◌&&◌, List, [], ◌∷◌, map, ℤ, pos, negsuc, Some, None, Ok, Err, filter, Option, Result, ◌==◌, nat_le, unsigned_abs}
 use Rattle.std.specs.List.{flat_map, ContainsAt as Has}
-use Rattle.recipes.specs.declared.places.Part.{Part}
 use Rattle.recipes.specs.declared.places.Part.TheVariants.{Core, Soft}
 use Rattle.recipes.specs.declared.places.Place.{Place}
 use Rattle.recipes.specs.declared.refusals.ElementRefusal.{ElementRefusal}

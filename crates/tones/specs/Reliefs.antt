@@ -1,5 +1,5 @@
 -- The kind of reliefs: heights from -255 to 255; lowered by r - a, held to -255..255. Assumes nothing.
-use Rattle.std.specs.Prelude.{◌≡◌, ℕ, ◌≤◌, Bool, false, cond, ℤ, pos, ◌+ℤ◌, ◌-ℤ◌, neg_ℤ, Result, MatchResult, nat_le, unsigned_abs}
+use Rattle.std.specs.Prelude.{◌≡◌, ◌≤◌, Bool, false, cond, ℤ, pos, ◌+ℤ◌, ◌-ℤ◌, neg_ℤ, Result, MatchResult, nat_le, unsigned_abs}
 use Rattle.std.proofs.Common.{arith}
 use Rattle.std.proofs.lemmas.Int.{ints, clamps}
 use Rattle.tones.specs.Kind.{Kind, held, spanned}

@@ -1,4 +1,4 @@
-use Rattle.std.proofs.Common.{◌<◌, true, length, sym, refl, ap, ◌∙◌, arith, w32, SFits, rules}
+use Rattle.std.proofs.Common.{◌<◌, length, refl, ap, ◌∙◌, arith, w32, SFits, rules}
 use Rattle.std.proofs.lemmas.List.{length-set}
 use Rattle.std.proofs.lemmas.Int.{to_z-of_z}
 use Rattle.recipes.specs.Lawful.{lawful}

@@ -1,4 +1,4 @@
-use Rattle.std.proofs.Common.{◌≡◌, true, false, ap, ◌∙◌, arith}
+use Rattle.std.proofs.Common.{◌≡◌, true, false, ap, arith}
 use Rattle.recipes.specs.Placed.{placed}
 use Rattle.recipes.specs.Recipes.{places_within}
 use Rattle.recipes.proofs.Passing.{all_left_at, all_none}

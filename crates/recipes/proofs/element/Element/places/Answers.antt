@@ -1,4 +1,4 @@
-use Rattle.std.proofs.Common.{◌≡◌, ℕ, ◌<◌, ◌≤◌, List, length, get_or, sym, ap, subst}
+use Rattle.std.proofs.Common.{ℕ, ◌<◌, ◌≤◌, List, length, get_or, sym, subst}
 use Rattle.recipes.specs.declared.places.Place.{Place}
 use Rattle.recipes.specs.Places.{Limits}
 use Rattle.recipes.proofs.Elements.{place_limited, placed_few}

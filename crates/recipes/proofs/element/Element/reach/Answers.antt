@@ -1,4 +1,4 @@
-use Rattle.std.proofs.Common.{◌≡◌, nat_abs, ap, ◌∙◌}
+use Rattle.std.proofs.Common.{◌≡◌, ap, ◌∙◌}
 use Rattle.recipes.specs.Placed.{placed}
 use Rattle.recipes.specs.Reaches.{reach}
 use Rattle.recipes.proofs.Elements.{element_reach, element_near}

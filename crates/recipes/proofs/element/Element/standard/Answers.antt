@@ -1,5 +1,4 @@
-use Rattle.std.proofs.Common.{◌≡◌, sym, refl, ap, ◌∙◌, subst}
-use Rattle.recipes.specs.declared.shapes.Shape.{Shape}
+use Rattle.std.proofs.Common.{◌≡◌, sym, ap, ◌∙◌, subst}
 use Rattle.recipes.specs.Placed.{placed}
 use Rattle.recipes.specs.Shapes.{standard_answer, standard_after, standard_places, Members}
 use Rattle.recipes.proofs.Members.{shape_members}
