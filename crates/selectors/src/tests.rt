@@ -15,8 +15,8 @@ fn puts<S: Selector>(
     selector: &mut S,
     table: &[(u32, u32, u32)],
 ) -> Result<(), Fail>
-    requires { ordered selector.old }
-    ensures in_order { ordered selector.new }
+    requires { S.ordered selector.old }
+    ensures in_order { S.ordered selector.new }
 {
     for (code, weight, expected) in table {
         let number = match selector.put(*code, *weight) {
@@ -34,7 +34,7 @@ fn selects<S: Selector>(
     selector: &S,
     table: &[(u32, Result<u32, u32>)],
 ) -> Result<(), Fail>
-    requires { ordered selector.now }
+    requires { S.ordered selector.now }
 {
     for (rank, expected) in table {
         let answer = match selector.select(*rank) {
@@ -47,7 +47,7 @@ fn selects<S: Selector>(
 }
 
 fn ranks<S: Selector>(rt: &impl Abort, selector: &mut S) -> Result<(), Fail>
-    requires { ordered selector.old }
+    requires { S.ordered selector.old }
 {
     puts(rt, selector, &[(7, 3, 0), (5, 2, 0), (9, 1, 0)])?;
     selects(
@@ -67,7 +67,7 @@ fn ranks<S: Selector>(rt: &impl Abort, selector: &mut S) -> Result<(), Fail>
 }
 
 fn limits<S: Selector>(rt: &impl Abort, selector: &mut S, range: u32, top: u32) -> Result<(), Fail>
-    requires { ordered selector.old }
+    requires { S.ordered selector.old }
 {
     assert_eq!(rt; selector.range(), range);
     puts(rt, selector, &[(range, 1, 2), (5, 0, 2), (top, 1, 0)])?;
@@ -94,7 +94,7 @@ fn limits<S: Selector>(rt: &impl Abort, selector: &mut S, range: u32, top: u32) 
 }
 
 fn medians<S: Selector>(rt: &impl Abort, selector: &mut S)
-    requires { ordered selector.old }
+    requires { S.ordered selector.old }
 {
     let entries = [
         Entry {
