@@ -14,8 +14,8 @@ use tones::Grey;
 
 /// The card 10 20 30 / 40 50 60 / 70 80 90, and what a stage makes of it.
 fn made<S: Selector>(selector: &mut S, stage: &Stage) -> [u8; 18]
-    requires order { ordered selector.old }
-    requires codes { 256 ≤ range selector.old }
+    requires order { S.ordered selector.old }
+    requires codes { 256 ≤ S.range selector.old }
 {
     let size = Size {
         width: 3,
