@@ -1,5 +1,5 @@
 -- A card with the memory that is lent to it, the calls on it, and how their results read as answers. Assumes nothing.
-use Rattle.std.specs.Prelude.{ℕ, suc, ◌*◌, List, [], Some, Ok, Err, Option, Result}
+use Rattle.std.specs.Prelude.{ℕ, suc, List, Some, Ok, Err, Option, Result}
 use Rattle.std.specs.Borrow.{Bor}
 use Rattle.planes.specs.declared.size.Size.{Size}
 use Rattle.planes.specs.Sizes.{start}
@@ -8,7 +8,6 @@ use Rattle.recipes.specs.declared.recipe.Stage.{Stage}
 use Rattle.areas.specs.Areas.{Area}
 use Rattle.calls.specs.declared.refusals.Refusal.{Refusal}
 use Rattle.calls.specs.declared.refusals.Refusal.TheVariants.{Size as BadSize, Memory, Range, Unopened, Outside, Count, TooFewSteps, TooManyStages, Amount, Stale}
-use Rattle.calls.specs.Refusals.{refusal_number}
 
 -- what a card notes once it has a size: the size, the most stages that it has planes for, the recipe in force, and the stale area of each of its stages
 pub record Notes : Type 0 where

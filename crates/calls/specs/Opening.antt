@@ -1,8 +1,6 @@
 -- What opening a card answers and leaves. Assumes nothing.
-use Rattle.std.specs.Prelude.{◌≡◌, ℕ, suc, Bool, cond, ◌&&◌, List, [], Some, None, Option, ◌==◌, nat_le}
-use Rattle.planes.specs.declared.size.Size.{Size}
-use Rattle.calls.specs.Calls.{Notes, Answer, room}
-use Rattle.calls.specs.Outcomes.{done_unless, kept_if}
+use Rattle.std.specs.Prelude.{ℕ, Bool, cond, ◌&&◌, [], Some, None, Option, ◌==◌, nat_le}
+use Rattle.calls.specs.Calls.{Notes, room}
 
 -- a number is from 1 to a greatest one
 abbrev pub from_1_to : ℕ → ℕ → Bool

@@ -1,5 +1,5 @@
 -- What a card promises of every run of calls once it has been opened. Assumes nothing.
-use Rattle.std.specs.Prelude.{◌≡◌, ℕ, ◌+◌, ◌<◌, ◌≤◌, min, true, List, ◌∷◌, length, is_some}
+use Rattle.std.specs.Prelude.{◌≡◌, ℕ, ◌+◌, ◌≤◌, min, true, List, ◌∷◌, length, is_some}
 use Rattle.planes.specs.declared.size.Size.{Size}
 use Rattle.recipes.specs.Recipes.{amounts_within}
 use Rattle.areas.specs.Rects.{rect_on}
@@ -12,7 +12,7 @@ use Rattle.calls.specs.Calls.{State, Call, Answer}
 use Rattle.calls.specs.Calls.Call.{Row}
 use Rattle.calls.specs.Calls.Answer.{Piece}
 use Rattle.calls.specs.Outcomes.{Outcome}
-use Rattle.calls.specs.History.{History, Event, plane, in_force, stale, raw}
+use Rattle.calls.specs.History.{History, plane, in_force, stale, raw}
 use Rattle.calls.specs.History.Event.{Worked}
 use Rattle.calls.specs.Runs.{Run, Begun, only_work, budgets, Shows, Says}
 

@@ -1,5 +1,5 @@
 -- What a residue answers and leaves: raw minus finished of a grey card. Assumes nothing.
-use Rattle.std.specs.Prelude.{ℕ, zero, suc, ◌+◌, Bool, cond, List, [], ◌∷◌, ◌++◌, length, ℤ, ◌-ℤ◌, Some, None, Option, ◌==◌, slice_index}
+use Rattle.std.specs.Prelude.{ℕ, zero, suc, ◌+◌, cond, List, [], ◌∷◌, ◌++◌, length, ℤ, ◌-ℤ◌, Some, None, Option, ◌==◌, slice_index}
 use Rattle.planes.specs.Sizes.{area, start}
 use Rattle.areas.specs.Areas.{stale_rows}
 use Rattle.tones.specs.Greys.{greys, grey_value}

@@ -1,5 +1,5 @@
 -- Runs of calls, and what the rules say that each call of a run answers. Assumes nothing.
-use Rattle.std.specs.Prelude.{◌≡◌, ℕ, suc, ◌+◌, ◌*◌, ◌<◌, ◌≤◌, min, Bool, true, false, List, [], ◌∷◌, length, Some, None, Option, slice_index_or}
+use Rattle.std.specs.Prelude.{◌≡◌, ℕ, ◌+◌, ◌*◌, ◌<◌, min, Bool, true, false, List, [], ◌∷◌, length, Some, None, Option, slice_index_or}
 use Rattle.planes.specs.declared.size.Size.{Size}
 use Rattle.planes.specs.Sizes.{Limits}
 use Rattle.areas.specs.declared.rect.Rect.{Rect}
@@ -8,11 +8,11 @@ use Rattle.areas.specs.Areas.{stale_rows, next_of, last_area, Misses, Meets}
 use Rattle.stages.specs.Planes.{blank}
 use Rattle.stages.specs.Stages.{Picture, made}
 use Rattle.tones.specs.Kind.{Kind}
-use Rattle.calls.specs.Calls.{State, Call, Answer, Notes, room}
+use Rattle.calls.specs.Calls.{State, Call, Answer, room}
 use Rattle.calls.specs.Calls.Call.{Patch, Install, Work, Row, Left, Due}
 use Rattle.calls.specs.Calls.Answer.{Done, Number, Piece, Next, Refused, Met}
 use Rattle.calls.specs.Outcomes.{done_unless, patch_refusal, install_refusal, Outcome}
-use Rattle.calls.specs.History.{Event, History, noted, in_force, stale, raw}
+use Rattle.calls.specs.History.{History, noted, in_force, stale, raw}
 use Rattle.calls.specs.History.Event.{Patched, Installed, Worked}
 
 -- calls in any number and order, each on the card and the memory as the calls before left them, with the history that they make

@@ -1,9 +1,9 @@
 -- The outcome of a call on an open card whose memory has its length.
-use Rattle.std.proofs.Common.{◌≡◌, ℕ, Bool, true, false, cond, not, eqb, List, length, Some, None, Option, sym, refl, ap, ◌∙◌}
+use Rattle.std.proofs.Common.{◌≡◌, ℕ, Bool, true, false, cond, not, List, length, Some, None, Option, sym, refl, ap, ◌∙◌}
 use Rattle.std.proofs.lemmas.Bool.{eq-eqb}
 use Rattle.tones.specs.Kind.{Kind}
 use Rattle.calls.specs.Calls.{Notes, Open, State, Call, Answer, room}
-use Rattle.calls.specs.Outcomes.{takes_memory, misfit, answer_open, after_open, answer_by, after_by, kept_if, Outcome}
+use Rattle.calls.specs.Outcomes.{takes_memory, misfit, answer_open, after_open, kept_if, Outcome}
 
 fits : {R : Type 0} (o : Open R) (c : Call R) → length o.memory ≡ room o.notes → misfit o c ≡ false
 fits o c h = ap (λ b. cond (takes_memory c) (not b) false) (eq-eqb (length o.memory) (room o.notes) h) ∙ go (takes_memory c)

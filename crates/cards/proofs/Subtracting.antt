@@ -1,5 +1,5 @@
 -- One difference more.
-use Rattle.std.proofs.Common.{◌≡◌, ℕ, suc, ◌+◌, ◌<◌, List, [], ◌∷◌, ◌++◌, length, get_or, take, set, ℤ, sym, refl, ap, ◌∙◌, ap₂, add-one}
+use Rattle.std.proofs.Common.{◌≡◌, ℕ, ◌+◌, ◌<◌, List, [], ◌∷◌, ◌++◌, length, get_or, take, set, ℤ, sym, refl, ap, ◌∙◌, ap₂, add-one}
 use Rattle.std.proofs.lemmas.List.{take_more_set}
 use Rattle.calls.specs.Residue.{difference, differences}
 

@@ -1,13 +1,12 @@
 -- Marks are eroded and dilated by counting. Assumes nothing.
-use Rattle.std.proofs.Common.{◌≡◌, ℕ, zero, suc, ◌+◌, ◌-◌, ◌^◌, ◌<◌, ◌≤◌, Bool, true, false, cond, ◌&&◌, leb, ◌↔◌, ℤ, sym, refl, ap, ◌∙◌, ⊎_elim, arith}
+use Rattle.std.proofs.Common.{◌≡◌, ℕ, zero, suc, ◌+◌, ◌<◌, ◌≤◌, leb, ◌↔◌, refl, ap, ⊎_elim, arith}
 use Rattle.std.proofs.lemmas.Bool.{cases_lt, le-leb}
 use Rattle.planes.specs.declared.size.Size.{Size}
-use Rattle.recipes.specs.declared.element.Element.{Element}
 use Rattle.recipes.specs.declared.recipe.Stage.{Stage}
 use Rattle.recipes.specs.Recipes.{eroding, dilating}
 use Rattle.selectors.specs.Bag.{below}
 use Rattle.selectors.proofs.Sums.{below_suc}
-use Rattle.stages.specs.Stages.{Picture, bag, total, rank, cleaned}
+use Rattle.stages.specs.Stages.{Picture, bag, rank, cleaned}
 use Rattle.stages.proofs.Cleaning.{total_least}
 use Rattle.tones.specs.declared.kinds.Mark.{Mark}
 use Rattle.tones.specs.declared.kinds.Mark.TheVariants.{No, Yes}

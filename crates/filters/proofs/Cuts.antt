@@ -1,6 +1,6 @@
 -- With all amounts 0 the stages go with cutting at any tone. Assumes nothing.
-use Rattle.std.proofs.Common.{◌≡◌, ℕ, zero, suc, ◌+◌, ◌<◌, ◌≤◌, Bool, true, false, cond, ◌&&◌, ltb, leb, List, [], ◌∷◌, ℤ, pos, negsuc, neg_ℤ, nat_abs, sym, refl, ap, ◌∙◌, ⊎_elim, arith}
-use Rattle.std.specs.List.{ContainsAt as Has, AllByRecursion as All}
+use Rattle.std.proofs.Common.{◌≡◌, ℕ, ◌<◌, ◌≤◌, Bool, true, false, ◌&&◌, ltb, leb, List, [], ◌∷◌, ℤ, pos, negsuc, nat_abs, sym, refl, ap, ◌∙◌, ⊎_elim, arith}
+use Rattle.std.specs.List.{AllByRecursion as All}
 use Rattle.std.proofs.ByRecursion.{All-weaker}
 use Rattle.std.proofs.lemmas.Bool.{cases_lt, and_parts, leb-true, le-leb, lt-leb}
 use Rattle.std.proofs.lemmas.Bool.Decides.{nat_tests}
@@ -13,9 +13,8 @@ use Rattle.recipes.specs.Placed.{placed}
 use Rattle.recipes.specs.Places.{all}
 use Rattle.recipes.specs.Recipes.{places_within, amounts_within}
 use Rattle.selectors.specs.Bag.{below}
-use Rattle.stages.specs.Stages.{Picture, target, rank_of, inside, read, code_at, bag, total, rank, cleaned, made, shifted}
+use Rattle.stages.specs.Stages.{Picture, target, rank_of, inside, read, bag, rank, cleaned, made, shifted}
 use Rattle.tones.specs.declared.kinds.Mark.{Mark}
-use Rattle.tones.specs.declared.kinds.Mark.TheVariants.{No, Yes}
 use Rattle.tones.specs.Kind.{Kind, Laws}
 use Rattle.tones.specs.Marks.{marks, mark, mark_code}
 use Rattle.filters.specs.Morphology.{On, cut, GoesWithCuts}

@@ -1,5 +1,5 @@
 -- The rows of a plane, written one after the other. Assumes nothing.
-use Rattle.std.proofs.Common.{◌≡◌, ℕ, zero, suc, ◌+◌, ◌-◌, ◌*◌, ◌<◌, ◌≤◌, true, cond, ltb, List, [], ◌∷◌, ◌++◌, length, sym, refl, ap, ◌∙◌, ap₂, mul-le-mul_right, suc-mul, mul_comm, add-one, arith}
+use Rattle.std.proofs.Common.{◌≡◌, ℕ, zero, suc, ◌+◌, ◌-◌, ◌*◌, ◌<◌, ◌≤◌, ltb, List, [], ◌∷◌, ◌++◌, length, sym, refl, ap, ◌∙◌, ap₂, mul-le-mul_right, suc-mul, mul_comm, add-one, arith}
 use Rattle.std.proofs.lemmas.List.{length-append}
 use Rattle.std.proofs.lemmas.Bool.{cond-true, lt-ltb}
 use Rattle.planes.specs.declared.size.Size.{Size}
@@ -7,7 +7,7 @@ use Rattle.planes.specs.Sizes.{area, start, cell}
 use Rattle.recipes.specs.declared.recipe.Stage.{Stage}
 use Rattle.stages.specs.Planes.{picture, line, overwritten}
 use Rattle.stages.specs.Rows.{row_made, row_weights}
-use Rattle.stages.specs.Stages.{Picture, cleaned, bag}
+use Rattle.stages.specs.Stages.{Picture, bag}
 use Rattle.stages.proofs.Lines.{line_length, overwritten_none, overwritten_same}
 use Rattle.stages.proofs.Pictures.{bag_same, cleaned_same}
 use Rattle.tones.specs.Kind.{Kind}

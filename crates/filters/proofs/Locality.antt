@@ -1,5 +1,5 @@
 -- A pixel of a stage depends only on the pixels within the element's reach. Assumes nothing.
-use Rattle.std.proofs.Common.{◌≡◌, ℕ, zero, suc, ◌+◌, ◌<◌, ◌≤◌, Bool, true, false, cond, ◌&&◌, eqb, List, [], ◌∷◌, ℤ, pos, negsuc, ◌+ℤ◌, ◌-ℤ◌, nat_abs, sym, refl, ap, ◌∙◌, arith}
+use Rattle.std.proofs.Common.{◌≡◌, ℕ, ◌≤◌, Bool, true, false, cond, ◌&&◌, eqb, List, [], ◌∷◌, ℤ, pos, negsuc, nat_abs, refl, ap, arith}
 use mathlib.Core.Path.{fun_ext}
 use Rattle.std.specs.List.{ContainsAt as Has, AllByRecursion as All}
 use Rattle.std.proofs.ByRecursion.{All-weaker, all-has, all_has_itself}
@@ -13,7 +13,7 @@ use Rattle.recipes.specs.Placed.{placed}
 use Rattle.recipes.specs.Reaches.{reach}
 use Rattle.recipes.proofs.Elements.{reach_bounds}
 use Rattle.selectors.specs.Bag.{below}
-use Rattle.stages.specs.Stages.{Picture, target, weight, rank_of, inside, read, code_at, adds, window, bag, ranked, cleaned, shifted}
+use Rattle.stages.specs.Stages.{Picture, target, weight, rank_of, inside, read, code_at, window, bag, ranked, cleaned, shifted}
 use Rattle.tones.specs.Kind.{Kind}
 use Rattle.filters.specs.Morphology.{On, Near, sideways, upright, Local}
 use Rattle.filters.proofs.Windows.{inside_on}

@@ -1,6 +1,6 @@
 -- A picture nowhere below another is made nowhere below it. Assumes nothing.
-use Rattle.std.proofs.Common.{◌≡◌, ℕ, suc, ◌+◌, ◌<◌, ◌≤◌, Bool, true, false, cond, ◌&&◌, ltb, List, [], ◌∷◌, ℤ, neg_ℤ, nat_abs, sym, refl, ap, ◌∙◌, arith}
-use Rattle.std.specs.List.{ContainsAt as Has, AllByRecursion as All}
+use Rattle.std.proofs.Common.{◌≡◌, ℕ, suc, ◌<◌, ◌≤◌, Bool, true, false, ◌&&◌, ltb, List, [], ◌∷◌, ℤ, neg_ℤ, sym, refl, ap, ◌∙◌, arith}
+use Rattle.std.specs.List.{ContainsAt as Has}
 use Rattle.std.proofs.ByRecursion.{All-weaker, all_has_itself}
 use Rattle.std.proofs.lemmas.Bool.{ltb-true, lt-ltb}
 use Rattle.planes.specs.declared.size.Size.{Size}
@@ -9,10 +9,9 @@ use Rattle.recipes.specs.declared.recipe.Operation.{Operation}
 use Rattle.recipes.specs.declared.recipe.Operation.TheVariants.{Erosion, Dilation}
 use Rattle.recipes.specs.declared.recipe.Stage.{Stage}
 use Rattle.recipes.specs.Placed.{placed}
-use Rattle.selectors.specs.Bag.{below}
-use Rattle.stages.specs.Stages.{Picture, target, rank_of, inside, code_at, bag, total, rank, cleaned, made, shifted}
+use Rattle.stages.specs.Stages.{Picture, target, rank_of, inside, code_at, rank, cleaned, made, shifted}
 use Rattle.tones.specs.Kind.{Kind, Laws}
-use Rattle.filters.specs.Morphology.{On, NowhereBelow, KeepsOrder}
+use Rattle.filters.specs.Morphology.{On, NowhereBelow}
 use Rattle.filters.proofs.Masses.{mass_le}
 use Rattle.filters.proofs.Windows.{inside_on, under, weighs, below_bag, total_is, picked, falls_short}
 

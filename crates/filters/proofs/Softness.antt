@@ -1,5 +1,5 @@
 -- A stage is the k-th smallest or the k-th largest of whole numbers, held to the range. Assumes nothing.
-use Rattle.std.proofs.Common.{◌≡◌, ℕ, zero, suc, ◌+◌, ◌-◌, ◌<◌, ◌≤◌, Bool, true, false, cond, not, ◌&&◌, ltb, List, [], ◌∷◌, ◌++◌, replicate, ℤ, pos, negsuc, ◌+ℤ◌, ◌-ℤ◌, neg_ℤ, nat_abs, ◌≤ℤ◌, count_by, sym, refl, ap, ◌∙◌, subst, ⊎_elim, arith}
+use Rattle.std.proofs.Common.{◌≡◌, ℕ, zero, suc, ◌+◌, ◌-◌, ◌<◌, ◌≤◌, Bool, true, false, cond, not, ◌&&◌, ltb, List, [], ◌∷◌, replicate, ℤ, pos, negsuc, ◌+ℤ◌, ◌-ℤ◌, neg_ℤ, nat_abs, ◌≤ℤ◌, count_by, sym, refl, ap, ◌∙◌, subst, ⊎_elim, arith}
 use lib.Signed.{lt_z, le_z}
 use Rattle.std.specs.List.{ContainsAt as Has, AllByRecursion as All}
 use Rattle.std.proofs.ByRecursion.{All-weaker, all-has}
@@ -13,9 +13,8 @@ use Rattle.recipes.specs.declared.recipe.Operation.TheVariants.{Erosion, Dilatio
 use Rattle.recipes.specs.declared.recipe.Stage.{Stage}
 use Rattle.recipes.specs.Placed.{placed}
 use Rattle.recipes.specs.Reaches.{reach}
-use Rattle.recipes.specs.Recipes.{places_within}
 use Rattle.recipes.proofs.Elements.{reach_bounds, order_positive}
-use Rattle.selectors.specs.Bag.{below, Ranked}
+use Rattle.selectors.specs.Bag.{below}
 use Rattle.selectors.proofs.Ranks.{ranked_from}
 use Rattle.stages.specs.Stages.{Picture, weight, rank_of, inside, read, code_at, bag, total, rank, cleaned, shifted}
 use Rattle.stages.proofs.Cleaning.{total_least}

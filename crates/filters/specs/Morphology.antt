@@ -1,5 +1,5 @@
 -- The laws of soft morphology, of every kind of tones. Opening and closing are two stages with one element, so each law that speaks of a list of stages holds of them, and each law of one stage holds of both of theirs. Assumes nothing.
-use Rattle.std.specs.Prelude.{◌≡◌, ℕ, suc, ◌+◌, ◌-◌, ◌<◌, ◌≤◌, Bool, true, cond, ◌↔◌, List, [], ◌∷◌, ◌++◌, replicate, ℤ, ◌+ℤ◌, ◌-ℤ◌, nat_le}
+use Rattle.std.specs.Prelude.{◌≡◌, ℕ, suc, ◌+◌, ◌-◌, ◌<◌, ◌≤◌, true, cond, ◌↔◌, List, [], ◌∷◌, ◌++◌, replicate, ℤ, ◌+ℤ◌, ◌-ℤ◌, nat_le}
 use Rattle.std.specs.List.{ContainsAt as Has}
 use Rattle.planes.specs.declared.size.Size.{Size}
 use Rattle.recipes.specs.declared.element.Element.{Element}

@@ -1,6 +1,5 @@
 -- What is told of the result of each call, and how the calls are counted. Assumes nothing.
 use Rattle.std.specs.Prelude.{ℕ, ◌+◌, ◌%◌, ◌^◌, Some, None, Ok, Err, Option, Result}
-use Rattle.calls.specs.Refusals.{refusal_number}
 use Rattle.calls.specs.declared.refusals.Refusal.{Refusal}
 use Rattle.calls.specs.declared.refusals.Refusal.TheVariants.{Size, Memory, Range, Unopened, Outside, Count, TooFewSteps, TooManyStages, Amount, Stale}
 use Rattle.recipes.specs.Refusals.{element_number, draft_number}

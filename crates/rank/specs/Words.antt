@@ -3,7 +3,6 @@ use Rattle.std.specs.Prelude.{◌≡◌, ℕ, ◌^◌, ◌<◌, List, Some, None
 use Rattle.std.specs.Str.Parse.{IsNumeral, digits_value, without_leading_plus}
 use Rattle.rank.specs.declared.call.Kind.{Kind}
 use Rattle.rank.specs.declared.call.Kind.TheVariants.{Gate, Histogram, Ladder}
-use Rattle.rank.specs.declared.call.Call.{Call}
 use Rattle.rank.specs.declared.call.Call.TheVariants.{Put, Total, Select, Empty}
 use Rattle.rank.specs.declared.call.Command.{Command}
 use Rattle.rank.specs.declared.call.Command.TheVariants.{Choose, Ask}

@@ -1,13 +1,12 @@
 -- Entries es, of which the first n are kept and weigh s together: a put on a code that has one, and on a code that has none.
 -- Assumes nothing.
-use Rattle.std.proofs.Common.{◌≡◌, ℕ, ◌+◌, ◌-◌, ◌<◌, ◌≤◌, cond, eqb, ◌⊎◌, List, length, get_or, take, set, Some, None, sym, ap, ◌∙◌, subst, inl, inr, arith}
+use Rattle.std.proofs.Common.{◌≡◌, ℕ, ◌+◌, ◌-◌, ◌<◌, ◌≤◌, cond, eqb, List, length, get_or, take, set, Some, None, sym, ap, ◌∙◌, subst, arith}
 use Rattle.std.proofs.lemmas.Bool.{eq-eqb, ne_eqb}
 use Rattle.selectors.specs.declared.entries.Entry.{Entry}
-use Rattle.selectors.specs.Bag.{below, held}
 use Rattle.selectors.specs.Entries.{blank, weigh, Weighty, Inserted, Place}
 use Rattle.selectors.specs.Tally.{Tally}
 use Rattle.selectors.proofs.Tallies.{tally_added}
-use Rattle.selectors.proofs.Weighing.{weigh_none, weigh_some, weigh_more, weigh_inserted, front_length, front_at}
+use Rattle.selectors.proofs.Weighing.{weigh_some, weigh_more, weigh_inserted, front_length, front_at}
 
 -- what a search among the first n entries finds
 pub place_some : (es : List Entry) (n c i : ℕ) → n ≤ length es → Place (take (n - 0) es) c (Some i) → (i < n) × ((get_or es i blank).code ≡ c)

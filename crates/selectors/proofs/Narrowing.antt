@@ -1,12 +1,12 @@
 -- The gate's search: what the codes with one prefix weigh. Assumes nothing.
-use Rattle.std.proofs.Common.{◌≡◌, ℕ, zero, suc, ◌+◌, ◌-◌, ◌*◌, ◌/◌, ◌^◌, ◌<◌, ◌≤◌, cond, eqb, ltb, List, length, get_or, sym, refl, ap, ◌∙◌, subst, ⊎_elim, mul_assoc, div-lt_iff_lt-mul, add-mul, mul-le-mul, mul-one, mul-div_cancel, add-one, arith}
-use Rattle.std.proofs.lemmas.Bool.{cases_eq, cases_lt}
+use Rattle.std.proofs.Common.{◌≡◌, ℕ, suc, ◌+◌, ◌-◌, ◌*◌, ◌/◌, ◌^◌, ◌<◌, ◌≤◌, cond, ltb, List, length, get_or, sym, ap, ◌∙◌, subst, ⊎_elim, mul_assoc, div-lt_iff_lt-mul, add-mul, mul-le-mul, mul-one, mul-div_cancel, add-one, arith}
+use Rattle.std.proofs.lemmas.Bool.{cases_lt}
 use Rattle.std.proofs.lemmas.Bool.Decides.{nat_tests}
 use Rattle.std.proofs.lemmas.Nat.{pow_pos}
-use native.Mathlib.Nat.{pow-succ', pow-zero}
+use native.Mathlib.Nat.{pow-succ'}
 use Rattle.selectors.specs.declared.entries.Entry.{Entry}
 use Rattle.selectors.specs.Bag.{below, Ranked}
-use Rattle.selectors.specs.Entries.{blank, share, weigh, under}
+use Rattle.selectors.specs.Entries.{blank, weigh, under}
 use Rattle.selectors.proofs.Ranks.{ranked_from}
 use Rattle.selectors.proofs.Sums.{below_same, below_mono}
 use Rattle.selectors.proofs.Weighing.{below_plus, below_weigh}

@@ -1,8 +1,7 @@
 -- What a put answers, cause by cause. Assumes nothing.
-use Rattle.std.proofs.Common.{◌≡◌, ℕ, ◌+◌, ◌<◌, ◌≤◌, Bool, true, false, cond, ◌&&◌, ◌||◌, eqb, ltb, leb, ◌⊎◌, Ok, Err, Result, refl, ⊎_elim, arith}
-use Rattle.std.proofs.lemmas.Bool.{ne_eqb, eq-eqb, le-ltb, lt-ltb, le-leb, lt-leb, and_from, and_left, and_right, or_from, or_left, or_right, cond-true, cond-false}
-use Rattle.selectors.specs.declared.refusals.PutRefusal.{PutRefusal}
-use Rattle.selectors.specs.declared.refusals.PutRefusal.TheVariants.{Unfit, Full, Heavy}
+use Rattle.std.proofs.Common.{◌≡◌, ℕ, ◌+◌, ◌<◌, ◌≤◌, eqb, leb, ◌⊎◌, Ok, Err, ⊎_elim, arith}
+use Rattle.std.proofs.lemmas.Bool.{ne_eqb, eq-eqb, le-ltb, lt-ltb, le-leb, lt-leb, and_from, and_left, and_right, or_from}
+use Rattle.selectors.specs.declared.refusals.PutRefusal.TheVariants.{Full, Heavy}
 use Rattle.selectors.specs.Bag.{below, held}
 use Rattle.selectors.specs.Calls.{put_answer}
 

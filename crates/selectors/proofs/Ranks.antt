@@ -1,5 +1,5 @@
 -- Laws of `Ranked` and `Selected`: a rank has exactly one answer. Assumes nothing.
-use Rattle.std.proofs.Common.{◌≡◌, ℕ, zero, suc, ◌+◌, ◌<◌, ◌≤◌, ◌⊎◌, Ok, Err, Result, sym, refl, ap, ◌∙◌, inl, inr, ⊎_elim, arith}
+use Rattle.std.proofs.Common.{◌≡◌, ℕ, zero, suc, ◌<◌, ◌≤◌, Ok, Err, Result, sym, refl, ap, ◌∙◌, inl, inr, ⊎_elim, arith}
 use Rattle.std.proofs.lemmas.Bool.{cases_lt, cases_eq}
 use Rattle.selectors.specs.declared.refusals.SelectRefusal.{SelectRefusal}
 use Rattle.selectors.specs.declared.refusals.SelectRefusal.TheVariants.{Unranked}

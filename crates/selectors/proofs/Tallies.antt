@@ -1,9 +1,9 @@
 -- The tally of a bag, from the empty one through each put. Assumes nothing.
-use Rattle.std.proofs.Common.{◌≡◌, ℕ, zero, suc, ◌+◌, ◌<◌, ◌≤◌, cond, eqb, List, length, get_or, set, replicate, sym, refl, ap, ◌∙◌, ⊎_elim, arith}
+use Rattle.std.proofs.Common.{◌≡◌, ℕ, zero, suc, ◌+◌, ◌<◌, ◌≤◌, cond, eqb, List, length, get_or, set, replicate, sym, refl, ap, ⊎_elim, arith}
 use Rattle.std.proofs.lemmas.Bool.{cases_eq}
 use Rattle.std.proofs.lemmas.Bool.Decides.{nat_tests}
 use Rattle.std.proofs.lemmas.List.{get_or-set_same, get_or-set_other}
-use Rattle.selectors.specs.Bag.{below, held, added}
+use Rattle.selectors.specs.Bag.{added}
 use Rattle.selectors.specs.Tally.{Tally}
 use Rattle.selectors.proofs.Sums.{below_none, held_none, below_same, held_same, below_added, held_added}
 

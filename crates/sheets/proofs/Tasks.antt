@@ -1,5 +1,5 @@
 -- The lowest stage with an area as a task, and where its planes lie.
-use Rattle.std.proofs.Common.{◌≡◌, ℕ, suc, ◌+◌, ◌-◌, ◌*◌, ◌<◌, ◌≤◌, List, [], ◌∷◌, length, get_or, Some, None, sym, refl, ap, ◌∙◌, mul-le-mul_right, suc-mul, arith}
+use Rattle.std.proofs.Common.{◌≡◌, ℕ, suc, ◌+◌, ◌-◌, ◌<◌, ◌≤◌, List, [], ◌∷◌, length, get_or, Some, None, sym, refl, ap, ◌∙◌, mul-le-mul_right, suc-mul, arith}
 use Rattle.planes.specs.declared.size.Size.{Size}
 use Rattle.planes.specs.Sizes.{area, start}
 use Rattle.recipes.specs.declared.recipe.Stage.{Stage}
@@ -9,7 +9,7 @@ use Rattle.areas.proofs.Walks.{Lowest, lowest_is}
 use Rattle.stages.specs.Rows.{row_made, row_weights}
 use Rattle.tones.specs.Kind.{Kind}
 use Rattle.calls.specs.Calls.{Notes}
-use Rattle.calls.specs.Outcomes.{Task, task, task_from, task_made, task_weights}
+use Rattle.calls.specs.Outcomes.{task, task_from, task_made, task_weights}
 
 -- the stage with the number k reads plane k - 1
 pub task_some : (j : ℕ) (ss : List Stage) (bs : List Area) (k : ℕ) (r : Rect) (s : Stage) → length bs ≡ length ss → lowest_from (j + 1) bs ≡ Some (k, r) → task_from j ss bs ≡ Some (record { stage = get_or ss (k - 1 - j) s; below = k - 1; area = r })

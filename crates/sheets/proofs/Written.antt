@@ -1,10 +1,10 @@
 -- Tones written into memory, one after the other, and row by row.
 use Rattle.std.proofs.Common.{◌≡◌, ℕ, suc, ◌+◌, ◌*◌, ◌<◌, ◌≤◌, List, [], ◌∷◌, ◌++◌, map, length, get_or, take, drop, set, sym, refl, ap, ◌∙◌, mul-le-mul_right, suc-mul, mul_comm, add-one, arith}
-use Rattle.std.proofs.lemmas.List.{map-append, take_more, length-map, length-take-le, take_all}
+use Rattle.std.proofs.lemmas.List.{map-append, take_more, length-map, length-take-le}
 use Rattle.planes.specs.declared.size.Size.{Size}
 use Rattle.planes.specs.Sizes.{area, cell}
 use Rattle.stages.specs.Planes.{overwritten}
-use Rattle.stages.proofs.Lines.{overwritten_none, overwritten_more}
+use Rattle.stages.proofs.Lines.{overwritten_more}
 use Rattle.tones.specs.Kind.{Kind}
 use Rattle.calls.specs.Outcomes.{laid}
 

@@ -1,27 +1,23 @@
 -- What a selector that holds a window gives is what the stage makes of the pixel.
-use Rattle.std.proofs.Common.{◌≡◌, ℕ, zero, suc, ◌+◌, ◌-◌, ◌*◌, ◌<◌, ◌≤◌, Bool, true, false, cond, ◌&&◌, eqb, ltb, List, [], ◌∷◌, length, get_or, take, ℤ, pos, negsuc, neg_ℤ, nat_abs, sum_by, sym, refl, ap, ◌∙◌, subst, arith}
+use Rattle.std.proofs.Common.{◌≡◌, ℕ, ◌+◌, ◌<◌, ◌≤◌, true, cond, length, take, ℤ, pos, negsuc, refl, ap, ◌∙◌, subst, arith}
 use mathlib.Core.Path.{fun_ext}
-use Rattle.std.specs.List.{ContainsAt as Has}
 use Rattle.std.proofs.lemmas.List.{length-take}
 use Rattle.std.proofs.lemmas.Bool.{and_parts, lt-ltb}
-use Rattle.std.proofs.lemmas.Int.{ints}
 use Rattle.planes.specs.declared.size.Size.{Size}
-use Rattle.recipes.specs.declared.element.Element.{Element}
-use Rattle.recipes.specs.declared.places.Place.{Place}
 use Rattle.recipes.specs.declared.recipe.Operation.{Operation}
 use Rattle.recipes.specs.declared.recipe.Operation.TheVariants.{Erosion, Dilation}
 use Rattle.recipes.specs.declared.recipe.Stage.{Stage}
 use Rattle.recipes.specs.Placed.{placed}
-use Rattle.recipes.specs.Places.{core, origin, same, stands_at}
+use Rattle.recipes.specs.Places.{core, same, stands_at}
 use Rattle.recipes.proofs.Arrays.{length_placed}
 use Rattle.recipes.proofs.Elements.{centre, order_positive}
 use Rattle.selectors.specs.Bag.{below, held, Ranked}
 use Rattle.selectors.proofs.Sums.{below_at, below_cut, below_same, held_same}
 use Rattle.selectors.proofs.Ranks.{ranked_one}
 use Rattle.tones.specs.Kind.{Kind, Laws}
-use Rattle.stages.specs.Stages.{Picture, target, on_card, weight, read, inside, code_at, adds, window, bag, total, rank, cleaned, rank_of, ranked}
+use Rattle.stages.specs.Stages.{Picture, target, on_card, weight, inside, code_at, adds, window, bag, total, rank, cleaned, rank_of, ranked}
 use Rattle.stages.proofs.Ranks.{ranked_is, rank_positive, rank_within}
-use Rattle.stages.proofs.Windows.{on_card_less, adds_own, window_has, window_most, window_few, window_within, weights_most}
+use Rattle.stages.proofs.Windows.{adds_own, window_has, window_most, window_few, window_within, weights_most}
 
 -- whole numbers found the same are the same
 pub same_is : (a b : ℤ) → same a b ≡ true → a ≡ b

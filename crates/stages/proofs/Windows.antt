@@ -1,22 +1,17 @@
 -- Laws of windows: what places add together, how much and on how many codes.
-use Rattle.std.proofs.Common.{◌≡◌, ℕ, zero, suc, ◌+◌, ◌-◌, ◌*◌, ◌<◌, ◌≤◌, Bool, true, false, cond, ◌&&◌, eqb, ltb, List, [], ◌∷◌, ◌++◌, length, get_or, take, ℤ, pos, negsuc, nat_abs, sum_by, sym, refl, ap, ◌∙◌, subst, ⊎_elim, arith}
-use mathlib.Core.Path.{fun_ext}
+use Rattle.std.proofs.Common.{◌≡◌, ℕ, ◌+◌, ◌*◌, ◌<◌, ◌≤◌, true, List, [], ◌∷◌, ◌++◌, length, get_or, take, ℤ, pos, negsuc, nat_abs, sum_by, sym, refl, ap, ◌∙◌, subst, arith}
 use Rattle.std.specs.List.{ContainsAt as Has, AllByRecursion as All}
 use Rattle.std.proofs.lemmas.List.Sums.{sum_by-cons, sum_by-append, sum_by_more, get_or-le-sum_by}
 use Rattle.std.proofs.ByRecursion.{sum_by_le}
-use Rattle.std.proofs.lemmas.Bool.{and_parts, ltb-true, lt-ltb, eqb-true, eq-eqb, ne_eqb, cases_eq}
+use Rattle.std.proofs.lemmas.Bool.{ltb-true, eq-eqb}
 use Rattle.std.proofs.lemmas.Bool.Decides.{nat_tests}
 use Rattle.planes.specs.declared.size.Size.{Size}
 use Rattle.recipes.specs.declared.element.Element.{Element}
 use Rattle.recipes.specs.declared.places.Place.{Place}
-use Rattle.recipes.specs.declared.recipe.Operation.{Operation}
-use Rattle.recipes.specs.declared.recipe.Operation.TheVariants.{Erosion, Dilation}
 use Rattle.recipes.specs.declared.recipe.Stage.{Stage}
-use Rattle.recipes.specs.Placed.{placed}
-use Rattle.recipes.specs.Places.{core, origin}
-use Rattle.recipes.proofs.Elements.{order_positive, order_few}
+use Rattle.recipes.proofs.Elements.{order_few}
 use Rattle.selectors.specs.Bag.{below, held}
-use Rattle.selectors.proofs.Sums.{held_none, held_same, below_none}
+use Rattle.selectors.proofs.Sums.{held_none, below_none}
 use Rattle.tones.specs.Kind.{Kind, Laws}
 use Rattle.stages.specs.Stages.{Picture, target, on_card, weight, inside, code_at, adds, window, bag, cleaned, rank_of, ranked}
 use Rattle.stages.proofs.Sums.{below_sum, below_one, held_one}

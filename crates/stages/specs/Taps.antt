@@ -1,5 +1,5 @@
 -- A window prepared for its stage: each place turned into a tap, by which an erosion reads. Assumes nothing.
-use Rattle.std.specs.Prelude.{ℕ, ◌≤◌, Bool, cond, ◌&&◌, ℤ, pos, ◌+ℤ◌, neg_ℤ, Some, None, Option, ◌==◌, unsigned_abs}
+use Rattle.std.specs.Prelude.{ℕ, ◌≤◌, cond, ◌&&◌, ℤ, pos, ◌+ℤ◌, neg_ℤ, Some, None, Option, ◌==◌, unsigned_abs}
 use Rattle.planes.specs.declared.size.Size.{Size}
 use Rattle.recipes.specs.declared.places.Place.{Place}
 use Rattle.recipes.specs.declared.recipe.Operation.{Operation}

@@ -1,4 +1,4 @@
-use Rattle.std.proofs.Common.{◌≡◌, ◌+◌, ◌-◌, sym, ap, ◌∙◌, ap₂, arith}
+use Rattle.std.proofs.Common.{◌≡◌, ◌+◌, ◌-◌, ap, ◌∙◌, ap₂, arith}
 use Rattle.planes.specs.Sizes.{start}
 use Rattle.stages.specs.Planes.{picture}
 use Rattle.stages.specs.Stages.{bag}

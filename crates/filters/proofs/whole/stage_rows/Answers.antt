@@ -1,4 +1,4 @@
-use Rattle.std.proofs.Common.{◌≡◌, ◌+◌, ◌-◌, ◌<◌, ◌≤◌, refl, ap, ◌∙◌, arith}
+use Rattle.std.proofs.Common.{◌≡◌, ◌-◌, ◌<◌, refl, ap, ◌∙◌, arith}
 use Rattle.stages.specs.Planes.{picture}
 use Rattle.stages.specs.Stages.{bag}
 use Rattle.filters.specs.Restaging.{staged, rows_made}

@@ -1,8 +1,8 @@
-use Rattle.std.proofs.Common.{◌≡◌, ℕ, ◌<◌, ◌≤◌, ◌⊎◌, length, get_or, Ok, Err, sym, refl, ap, ◌∙◌, subst, ⊎_elim, arith}
+use Rattle.std.proofs.Common.{◌≡◌, length, get_or, Ok, Err, sym, refl, ap, ◌∙◌, subst, arith}
 use mathlib.Core.Path.{fun_ext}
-use Rattle.selectors.specs.Bag.{below, added, Ranked}
+use Rattle.selectors.specs.Bag.{below, added}
 use Rattle.selectors.specs.Entries.{blank, weigh}
-use Rattle.selectors.specs.Median.{put_at, Taken, Halves}
+use Rattle.selectors.specs.Median.{Taken, Halves}
 use Rattle.selectors.proofs.Ranks.{one_answer, answer_has_weight}
 use Rattle.selectors.proofs.Weighing.{weigh_zero}
 use Rattle.selectors.proofs.Medians.{put_next, weigh_next, taken_more, taken_none, halves_from, half_none}

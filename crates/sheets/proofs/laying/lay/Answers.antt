@@ -1,4 +1,4 @@
-use Rattle.std.proofs.Common.{◌+◌, ◌<◌, ◌≤◌, sym, arith}
+use Rattle.std.proofs.Common.{◌+◌, ◌<◌, sym, arith}
 use Rattle.sheets.proofs.Written.{laid_none, laid_more, row_within, piece_within}
 use Rattle.sheets.proofs.laying.lay.Goals as goal
 

@@ -1,4 +1,4 @@
-use Rattle.std.proofs.Common.{◌≡◌, ◌≤◌, ◌∙◌, arith}
+use Rattle.std.proofs.Common.{◌≤◌, ◌∙◌, arith}
 use Rattle.stages.specs.Planes.{picture}
 use Rattle.stages.proofs.Cleaning.{rank_fits, ranked_cleaned}
 use Rattle.stages.proofs.pixels.pixel.Goals as goal

@@ -1,11 +1,10 @@
-use Rattle.std.proofs.Common.{◌≡◌, ℕ, ◌+◌, ◌<◌, ◌≤◌, length, get_or, take, sym, refl, ap, ◌∙◌, subst, arith}
+use Rattle.std.proofs.Common.{◌<◌, ◌≤◌, get_or, sym, refl, ap, ◌∙◌, subst, arith}
 use Rattle.std.proofs.lemmas.List.{take_all}
 use Rattle.recipes.specs.Placed.{placed}
 use Rattle.recipes.specs.Places.{origin}
 use Rattle.recipes.proofs.Elements.{order_positive, order_few}
 use Rattle.stages.specs.Planes.{picture}
 use Rattle.stages.specs.Stages.{window}
-use Rattle.stages.specs.Taps.{tap_of}
 use Rattle.stages.specs.declared.taps.Tap.{Tap}
 use Rattle.stages.proofs.Cleaning.{room}
 use Rattle.stages.proofs.Turns.{tap_item, tap_step, taps_length}

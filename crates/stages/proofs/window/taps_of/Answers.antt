@@ -1,4 +1,4 @@
-use Rattle.std.proofs.Common.{◌≡◌, ◌<◌, length, get_or, take, sym, ap, ◌∙◌, subst, arith}
+use Rattle.std.proofs.Common.{◌≡◌, ◌<◌, length, get_or, ap, ◌∙◌, subst, arith}
 use Rattle.recipes.specs.Placed.{placed}
 use Rattle.recipes.specs.Places.{origin}
 use Rattle.std.proofs.lemmas.List.{length-set, take_more_set, map_more, take_all}

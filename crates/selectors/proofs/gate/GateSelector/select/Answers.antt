@@ -1,6 +1,5 @@
-use Rattle.std.proofs.Common.{◌≡◌, ℕ, ◌≤◌, length, ap, subst, arith}
+use Rattle.std.proofs.Common.{◌≤◌, length, ap, subst, arith}
 use Rattle.selectors.specs.Bag.{below, Ranked}
-use Rattle.selectors.specs.Entries.{weigh}
 use Rattle.selectors.proofs.Weighing.{front_bag}
 use Rattle.selectors.proofs.gate.GateSelector.select.Goals as goal
 

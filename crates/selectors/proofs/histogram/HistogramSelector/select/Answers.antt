@@ -1,4 +1,4 @@
-use Rattle.std.proofs.Common.{◌≡◌, ℕ, ◌+◌, get_or, sym, arith}
+use Rattle.std.proofs.Common.{◌≡◌, ℕ, ◌+◌, get_or, arith}
 use Rattle.selectors.specs.Bag.{below}
 use Rattle.selectors.proofs.Sums.{below_zero, below_more, below_suc, below_short}
 use Rattle.selectors.proofs.Ranks.{ranked_from}

@@ -1,5 +1,4 @@
 use Rattle.std.proofs.Common.{refl, arith}
-use Rattle.selectors.specs.Entries.{weigh}
 use Rattle.selectors.proofs.Tallies.{tally_none}
 use Rattle.selectors.proofs.Weighing.{weigh_zero}
 use Rattle.selectors.proofs.ladder.LadderSelector.empty.Goals as goal

@@ -1,5 +1,4 @@
-use Rattle.std.proofs.Common.{◌≡◌, ℕ, ◌+◌, ◌<◌, ◌≤◌, ◌⊎◌, length, sym, refl, ◌∙◌, inl, inr, arith, length-set}
-use Rattle.selectors.specs.Bag.{below, held}
+use Rattle.std.proofs.Common.{◌<◌, sym, refl, ◌∙◌, inl, inr, arith, length-set}
 use Rattle.selectors.specs.Entries.{weigh}
 use Rattle.selectors.proofs.Sums.{below_at}
 use Rattle.selectors.proofs.Puts.{put_full, put_heavy, put_taken}

@@ -1,5 +1,5 @@
 use Rattle.std.proofs.Common.{◌≡◌, ◌+◌, ◌-◌, ◌≤◌, length, ap, ◌∙◌, arith}
-use Rattle.planes.specs.Sizes.{cell, start}
+use Rattle.planes.specs.Sizes.{cell}
 use Rattle.recipes.specs.Recipes.{staged}
 use Rattle.sheets.proofs.Tasks.{plane_within}
 use Rattle.sheets.proofs.Written.{piece_within}

@@ -1,4 +1,4 @@
-use Rattle.std.proofs.Common.{length, sym, ap, ◌∙◌}
+use Rattle.std.proofs.Common.{length, ap, ◌∙◌}
 use Rattle.areas.proofs.Walks.{length_dropped}
 use Rattle.areas.specs.Listed.{listed}
 use Rattle.sheets.proofs.sheet.Sheet.redo.Goals as goal

@@ -1,5 +1,5 @@
-use Rattle.std.proofs.Common.{◌≡◌, sym, refl, ap, ◌∙◌, arith}
-use Rattle.calls.specs.Calls.{Open, room}
+use Rattle.std.proofs.Common.{sym, refl, ap, ◌∙◌, arith}
+use Rattle.calls.specs.Calls.{room}
 use Rattle.sheets.specs.Meanings.{notes_of, open_of}
 use Rattle.sheets.proofs.Progress.{redone_none, redone_room, notes_more, memory_more, weights_more}
 use Rattle.sheets.proofs.sheet.Sheet.work.Goals as goal

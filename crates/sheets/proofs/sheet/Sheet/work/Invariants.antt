@@ -1,5 +1,4 @@
 use Rattle.std.proofs.Common.{◌≡◌, ℕ}
-use Rattle.calls.specs.Calls.{Open}
 use Rattle.calls.specs.Outcomes.{redone_rows}
 use Rattle.sheets.specs.Meanings.{notes_of, open_of}
 use Rattle.sheets.proofs.sheet.Sheet.work.Given as goal
