@@ -1,6 +1,6 @@
 -- With all amounts 0 the stages go with cutting at any tone. Assumes nothing.
 use Rattle.std.proofs.Common.{◌≡◌, ℕ, ◌<◌, ◌≤◌, Bool, true, false, ◌&&◌, ltb, leb, List, [], ◌∷◌, ℤ, pos, negsuc, nat_abs, sym, refl, ap, ◌∙◌, ⊎_elim, arith}
-use Rattle.std.specs.List.{AllByRecursion as All}
+use Rattle.std.specs.List.{AllByRecursion}
 use Rattle.std.proofs.ByRecursion.{All-weaker}
 use Rattle.std.proofs.lemmas.Bool.{cases_lt, and_parts, leb-true, le-leb, lt-leb}
 use Rattle.std.proofs.lemmas.Bool.Decides.{nat_tests}
@@ -23,7 +23,7 @@ use Rattle.filters.proofs.Counting.{marks_lawful, is_yes, is_no}
 use Rattle.filters.proofs.Windows.{inside_on, under, weighs, below_bag, total_is, reaches, falls_short}
 
 -- the amounts of places within a span
-pub amounts : (span : ℕ) (ps : List Place) → places_within span ps ≡ true → All (λ p. nat_abs p.amount ≤ span) ps
+pub amounts : (span : ℕ) (ps : List Place) → places_within span ps ≡ true → AllByRecursion (λ p. nat_abs p.amount ≤ span) ps
 unfolding all
 amounts span [] h = tt
 amounts span (p ∷ ps) h =

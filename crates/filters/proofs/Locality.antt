@@ -1,7 +1,7 @@
 -- A pixel of a stage depends only on the pixels within the element's reach. Assumes nothing.
 use Rattle.std.proofs.Common.{◌≡◌, ℕ, ◌≤◌, Bool, true, false, cond, ◌&&◌, eqb, List, [], ◌∷◌, ℤ, pos, negsuc, nat_abs, refl, ap, arith}
 use mathlib.Core.Path.{fun_ext}
-use Rattle.std.specs.List.{ContainsAt as Has, AllByRecursion as All}
+use Rattle.std.specs.List.{ContainsAt as Has, AllByRecursion}
 use Rattle.std.proofs.ByRecursion.{All-weaker, all-has, all_has_itself}
 use Rattle.std.proofs.lemmas.Int.{ints}
 use Rattle.planes.specs.declared.size.Size.{Size}
@@ -30,7 +30,7 @@ share_same false c d e n h = refl
 
 module _ {T R : Type 0} (K : Kind T R) (size : Size) (s : Stage) (f g : Picture T) (x y : ℕ) where
   -- pictures that are read alike have the same window
-  pub window_same : (ps : List Place) → All (λ p. inside K size s f x y p ≡ true → read K size s f x y p ≡ read K size s g x y p) ps → (c : ℕ) → window K size s f x y ps c ≡ window K size s g x y ps c
+  pub window_same : (ps : List Place) → AllByRecursion (λ p. inside K size s f x y p ≡ true → read K size s f x y p ≡ read K size s g x y p) ps → (c : ℕ) → window K size s f x y ps c ≡ window K size s g x y ps c
   unfolding window
   window_same [] h c = refl
   window_same (p ∷ ps) h c =

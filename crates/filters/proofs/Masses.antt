@@ -1,6 +1,6 @@
 -- What the items of a list that pass a test weigh together. Assumes nothing.
 use Rattle.std.proofs.Common.{◌≡◌, ℕ, ◌+◌, ◌<◌, ◌≤◌, Bool, true, false, cond, not, ◌&&◌, List, [], ◌∷◌, refl, ⊎_elim, le_refl, arith}
-use Rattle.std.specs.List.{ContainsAt as Has, AllByRecursion as All}
+use Rattle.std.specs.List.{ContainsAt as Has, AllByRecursion}
 use Rattle.std.proofs.ByRecursion.{has_append_right}
 use Rattle.std.proofs.lemmas.Bool.{cases_lt}
 
@@ -25,18 +25,18 @@ share_less false false n h = absurd (omega arith)
 
 module _ {X : Type 0} (v : X → ℕ) where
   -- a weaker test passes more
-  pub mass_le : (A B : X → Bool) (ps : List X) → All (λ p. A p ≡ true → B p ≡ true) ps → mass v A ps ≤ mass v B ps
+  pub mass_le : (A B : X → Bool) (ps : List X) → AllByRecursion (λ p. A p ≡ true → B p ≡ true) ps → mass v A ps ≤ mass v B ps
   unfolding mass
   mass_le A B [] h = omega arith
   mass_le A B (p ∷ ps) h = omega (arith, share_le (A p) (B p) (v p) h.0, mass_le A B ps h.1)
 
   -- the same tests, the same weight
-  pub mass_same : (A B : X → Bool) (ps : List X) → All (λ p. A p ≡ B p) ps → mass v A ps ≡ mass v B ps
+  pub mass_same : (A B : X → Bool) (ps : List X) → AllByRecursion (λ p. A p ≡ B p) ps → mass v A ps ≡ mass v B ps
   unfolding mass
   mass_same A B [] h = refl
   mass_same A B (p ∷ ps) h = rw (h.0, mass_same A B ps h.1)
 
-  pub mass_none : (A : X → Bool) (ps : List X) → All (λ p. A p ≡ false) ps → mass v A ps ≡ 0
+  pub mass_none : (A : X → Bool) (ps : List X) → AllByRecursion (λ p. A p ≡ false) ps → mass v A ps ≡ 0
   unfolding mass
   mass_none A [] h = refl
   mass_none A (p ∷ ps) h = rw (h.0, mass_none A ps h.1) (omega arith)

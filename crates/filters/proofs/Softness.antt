@@ -1,7 +1,7 @@
 -- A stage is the k-th smallest or the k-th largest of whole numbers, held to the range. Assumes nothing.
 use Rattle.std.proofs.Common.{◌≡◌, ℕ, zero, suc, ◌+◌, ◌-◌, ◌<◌, ◌≤◌, Bool, true, false, cond, not, ◌&&◌, ltb, List, [], ◌∷◌, replicate, ℤ, pos, negsuc, ◌+ℤ◌, ◌-ℤ◌, neg_ℤ, nat_abs, ◌≤ℤ◌, count_by, sym, refl, ap, ◌∙◌, subst, ⊎_elim, arith}
 use lib.Signed.{lt_z, le_z}
-use Rattle.std.specs.List.{ContainsAt as Has, AllByRecursion as All}
+use Rattle.std.specs.List.{ContainsAt as Has, AllByRecursion}
 use Rattle.std.proofs.ByRecursion.{All-weaker, all-has}
 use Rattle.std.proofs.lemmas.Int.{ints}
 use Rattle.std.proofs.lemmas.List.Sums.{sum_by-append}
@@ -65,7 +65,7 @@ module _ {T R : Type 0} (K : Kind T R) (value : T → ℤ) (size : Size) (s : St
       ∙ ap (λ k. cond (passing t p) (weighs K size s f x y p) 0 + k) (count_items t ps))
 
   -- a family of tests that none passes at first and all pass at last has one at which so many come to pass
-  crossing : (test : ℕ → ℤ → Bool) (n k : ℕ) (ps : List Place) → All (λ p. test 0 (level p) ≡ false) ps → All (λ p. test n (level p) ≡ true) ps → 0 < k → k ≤ mass (weighs K size s f x y) (inside K size s f x y) ps → (i : ℕ) × (mass (weighs K size s f x y) (passing (test i)) ps < k) × (k ≤ mass (weighs K size s f x y) (passing (test (suc i))) ps)
+  crossing : (test : ℕ → ℤ → Bool) (n k : ℕ) (ps : List Place) → AllByRecursion (λ p. test 0 (level p) ≡ false) ps → AllByRecursion (λ p. test n (level p) ≡ true) ps → 0 < k → k ≤ mass (weighs K size s f x y) (inside K size s f x y) ps → (i : ℕ) × (mass (weighs K size s f x y) (passing (test i)) ps < k) × (k ≤ mass (weighs K size s f x y) (passing (test (suc i))) ps)
   crossing test n k ps none every some enough =
       let first : mass (weighs K size s f x y) (passing (test 0)) ps ≡ 0 = mass_none (weighs K size s f x y) (passing (test 0)) ps (All-weaker (λ p. test 0 (level p) ≡ false) _ (λ p e. gate_shut (inside K size s f x y p) _ e) ps none) in
       let last = mass_le (weighs K size s f x y) (inside K size s f x y) (passing (test n)) ps (All-weaker (λ p. test n (level p) ≡ true) _ (λ p e. gate_open (inside K size s f x y p) _ e) ps every) in
@@ -124,7 +124,7 @@ module _ {T R : Type 0} (K : Kind T R) (low high : ℤ) (value : T → ℤ) (who
     strictly_above p h e = ⊎_elim (λ t. t) (λ (t : lt_z (level K value size s f x y q) (level K value size s f x y p) ≡ false). absurd (omega (arith, down p h (le_from_not (level K value size s f x y q) (level K value size s f x y p) t), ltb-false (code_at K size s f x y p) (suc (code_at K size s f x y q)) (not-true (ltb (code_at K size s f x y p) (suc (code_at K size s f x y q))) e)))) (cases_Bool (lt_z (level K value size s f x y q) (level K value size s f x y p)))
 
     -- so the code of q is at the rank
-    module _ (k : ℕ) (ps : List Place) (fit : All (λ p. nat_abs p.amount ≤ K.span) ps) where
+    module _ (k : ℕ) (ps : List Place) (fit : AllByRecursion (λ p. nat_abs p.amount ≤ K.span) ps) where
       eroded : mass (weighs K size s f x y) (passing K value size s f x y (λ i. lt_z i (level K value size s f x y q))) ps < k → k ≤ mass (weighs K size s f x y) (passing K value size s f x y (λ i. le_z i (level K value size s f x y q))) ps → (mass (weighs K size s f x y) (under K size s f x y (code_at K size s f x y q)) ps < k) × (k ≤ mass (weighs K size s f x y) (under K size s f x y (suc (code_at K size s f x y q))) ps)
       eroded few enough =
           let a = mass_le (weighs K size s f x y) (under K size s f x y (code_at K size s f x y q)) (passing K value size s f x y (λ i. lt_z i (level K value size s f x y q))) ps (All-weaker (λ p. nat_abs p.amount ≤ K.span) _ (λ p h. gate (inside K size s f x y p) _ _ (strictly_below p h)) ps fit) in
@@ -139,7 +139,7 @@ module _ {T R : Type 0} (K : Kind T R) (low high : ℤ) (value : T → ℤ) (who
           let d = mass_split (weighs K size s f x y) (inside K size s f x y) (λ p. ltb (code_at K size s f x y p) (suc (code_at K size s f x y q))) ps in
           (omega (arith, a, c), omega (arith, b, d))
 
-  module _ (law : Laws K) (size : Size) (s : Stage) (f : Picture T) (x y : ℕ) (on : On size x y) (fit : All (λ p. nat_abs p.amount ≤ K.span) (placed s.element)) where
+  module _ (law : Laws K) (size : Size) (s : Stage) (f : Picture T) (x y : ℕ) (on : On size x y) (fit : AllByRecursion (λ p. nat_abs p.amount ≤ K.span) (placed s.element)) where
     enough_weight : s.element.order ≤ mass (weighs K size s f x y) (inside K size s f x y) (placed s.element)
     enough_weight = omega (arith, total_least K law size s f x y on.0 on.1, total_is K size s f x y law)
 

@@ -1,6 +1,6 @@
 -- What is known of every element.
 use Rattle.std.proofs.Common.{◌≡◌, ℕ, ◌+◌, ◌<◌, ◌≤◌, max, true, ◌&&◌, List, [], ◌∷◌, ◌++◌, length, get_or, take, ℤ, pos, nat_abs, refl, ⊎_elim, arith}
-use Rattle.std.specs.List.{ContainsAt as Has, AllByRecursion as All}
+use Rattle.std.specs.List.{ContainsAt as Has, AllByRecursion}
 use Rattle.std.proofs.lemmas.List.{take_more}
 use Rattle.std.proofs.ByRecursion.{All-get_or, All-weaker, has_append_right}
 use Rattle.std.proofs.lemmas.Bool.Decides.{nat_tests}
@@ -19,12 +19,12 @@ use Rattle.recipes.proofs.Arrays.{length_placed}
 pub placed_few : (e : Element) → length (placed e) ≤ 49
 placed_few e = omega (arith, length_placed e, e.within)
 
-all_limits : (ps : List Place) → all limited ps ≡ true → All Limits ps
+all_limits : (ps : List Place) → all limited ps ≡ true → AllByRecursion Limits ps
 unfolding all
 all_limits [] e = tt
 all_limits (p ∷ ps) e = let a = and_parts (limited p) (all limited ps) e in (limits p a.0, all_limits ps a.1)
 
-pub places_limited : (e : Element) → All Limits (placed e)
+pub places_limited : (e : Element) → AllByRecursion Limits (placed e)
 places_limited e = all_limits (placed e) (sound (placed e) e.order e.sound).inside
 
 pub place_limited : (e : Element) (i : ℕ) (d : Place) → i < length (placed e) → Limits (get_or (placed e) i d)
@@ -53,7 +53,7 @@ module _ (d : Place → ℤ) where
   pub reach_more : (ps : List Place) (i r : ℕ) → i < length ps → r ≡ reach d (take i ps) → max r (nat_abs (d (get_or ps i origin))) ≡ reach d (take (i + 1) ps)
   reach_more ps i r h e = rw (take_more ps i origin h, reach_push (take i ps) (get_or ps i origin), e)
 
-  pub reach_bounds : (ps : List Place) → All (λ p. nat_abs (d p) ≤ reach d ps) ps
+  pub reach_bounds : (ps : List Place) → AllByRecursion (λ p. nat_abs (d p) ≤ reach d ps) ps
   unfolding reach
   reach_bounds [] = tt
   reach_bounds (q ∷ ps) = (omega arith, All-weaker (λ p. nat_abs (d p) ≤ reach d ps) _ (λ p h. omega arith) ps (reach_bounds ps))
@@ -71,7 +71,7 @@ module _ (d : Place → ℤ) where
   reach_greatest [] p h = absurd (omega (arith, h.1))
   reach_greatest (q ∷ ps) p h = record { bound = reach_bounds (q ∷ ps); met = reach_met q ps }
 
-  pub reach_within : (n : ℕ) (ps : List Place) → All (λ p. nat_abs (d p) ≤ n) ps → reach d ps ≤ n
+  pub reach_within : (n : ℕ) (ps : List Place) → AllByRecursion (λ p. nat_abs (d p) ≤ n) ps → reach d ps ≤ n
   unfolding reach
   reach_within n [] h = omega arith
   reach_within n (p ∷ ps) h = omega (arith, h.0, reach_within n ps h.1)

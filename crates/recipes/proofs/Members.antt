@@ -1,6 +1,6 @@
 -- Which places a standard shape has.
 use Rattle.std.proofs.Common.{◌≡◌, zero, suc, ◌≤◌, Bool, true, false, cond, List, [], ◌∷◌, map, ℤ, pos, negsuc, nat_abs, filter, sym, refl, ap, ◌∙◌, subst, arith}
-use Rattle.std.specs.List.{flat_map, ContainsAt as Has, AllByRecursion as All}
+use Rattle.std.specs.List.{flat_map, ContainsAt as Has, AllByRecursion}
 use Rattle.std.proofs.ByRecursion.{All-weaker, All-map, All-append, all-has, all_kept_by, kept_by_passes, has_append_left, has_append_right}
 use Rattle.std.proofs.lemmas.List.{length-map, get_or-map}
 use Rattle.std.proofs.lemmas.Bool.Decides.{nat_tests}
@@ -9,18 +9,18 @@ use Rattle.recipes.specs.declared.shapes.Shape.TheVariants.{Cross, Square3, Octa
 use Rattle.recipes.specs.Shapes.{in_shape, standard_place, standard_places, grid, offsets, Members}
 
 -- a filter keeps what passes
-has_kept_by : {X : Type 0} (test : X → Bool) (xs : List X) → All (λ x. test x ≡ true → Has (filter test xs) x) xs
+has_kept_by : {X : Type 0} (test : X → Bool) (xs : List X) → AllByRecursion (λ x. test x ≡ true → Has (filter test xs) x) xs
 has_kept_by test [] = tt
 has_kept_by {X} test (y ∷ xs) =
     let later : (x : X) → (test x ≡ true → Has (filter test xs) x) → test x ≡ true → Has (cond (test y) (y ∷ filter test xs) (filter test xs)) x =
     λ x h e. elim (test y) as (λ b. Has (cond b (y ∷ filter test xs) (filter test xs)) x) [ true ↦ has_append_right (y ∷ []) (filter test xs) x (h e) | false ↦ h e ] in
     (λ e. rw e (0, omega arith, λ d. refl), All-weaker (λ x. test x ≡ true → Has (filter test xs) x) _ later xs (has_kept_by test xs))
 
-all_joined : {X Y : Type 0} (P : Y → Type 0) (f : X → List Y) → ((x : X) → All P (f x)) → (xs : List X) → All P (flat_map f xs)
+all_joined : {X Y : Type 0} (P : Y → Type 0) (f : X → List Y) → ((x : X) → AllByRecursion P (f x)) → (xs : List X) → AllByRecursion P (flat_map f xs)
 all_joined P f h [] = tt
 all_joined P f h (x ∷ xs) = All-append P (f x) (flat_map f xs) (h x) (all_joined P f h xs)
 
-has_joined : {X Y : Type 0} (f : X → List Y) (y : Y) (xs : List X) → All (λ x. Has (f x) y → Has (flat_map f xs) y) xs
+has_joined : {X Y : Type 0} (f : X → List Y) (y : Y) (xs : List X) → AllByRecursion (λ x. Has (f x) y → Has (flat_map f xs) y) xs
 has_joined f y [] = tt
 has_joined f y (x ∷ xs) = (
   λ h. has_append_left (f x) (flat_map f xs) y h,
@@ -48,7 +48,7 @@ has_grid dx dy h k =
     (has_joined (λ z. map (λ x. standard_place x z) offsets) (standard_place dx dy) offsets) (has_offset dy k)
     (has_map (λ x. standard_place x dy) offsets dx (has_offset dx h))
 
-all_grid : All (λ p. p ≡ standard_place p.dx p.dy) grid
+all_grid : AllByRecursion (λ p. p ≡ standard_place p.dx p.dy) grid
 unfolding grid
 all_grid =
     all_joined (λ p. p ≡ standard_place p.dx p.dy) (λ dy. map (λ dx. standard_place dx dy) offsets)

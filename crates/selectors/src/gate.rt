@@ -3,7 +3,7 @@ ghost use Rattle.std.specs.Prelude.{◌≡◌, ℕ, ◌<◌, ◌≤◌, length};
 ghost use Rattle.selectors.specs.Bag.{below, Ranked};
 ghost use Rattle.selectors.specs.Entries.{Place, Weighty, bag, under, weigh};
 ghost use Rattle.selectors.specs.Tally.{Tally};
-ghost use Rattle.std.proofs.Common.{rules, arith};
+ghost use Rattle.std.proofs.Common.{rules};
 
 use crate::entries::Entry;
 use crate::limits::{MOST_CODES, MOST_WEIGHT, WIDE_RANGE};
@@ -41,9 +41,9 @@ impl Selector for Gate {
 
     ghost ordered = { λ _. Unit {0} };
 
-    ghost light = { first_of (Prim.search rules, Prim.grind (arith, Self.row.coded.inj)) };
+    ghost light = { Prim.search rules };
 
-    ghost few = { first_of (Prim.search rules, Prim.grind (arith, Self.row.coded.inj)) };
+    ghost few = { Prim.search rules };
 
     fn range(&self) -> u32 {
         WIDE_RANGE

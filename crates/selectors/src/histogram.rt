@@ -1,7 +1,7 @@
 //! The histogram: one weight for each code below 512.
 ghost use Rattle.std.specs.Prelude.{◌≡◌, ℕ, length, slice_index};
 ghost use Rattle.selectors.specs.Tally.{Tally};
-ghost use Rattle.std.proofs.Common.{rules, arith};
+ghost use Rattle.std.proofs.Common.{rules};
 
 use crate::limits::{MOST_CODES, MOST_WEIGHT};
 use crate::refusals::{PutRefusal, SelectRefusal};
@@ -41,9 +41,9 @@ impl Selector for Histogram {
 
     ghost ordered = { λ _. Unit {0} };
 
-    ghost light = { first_of (Prim.search rules, Prim.grind (arith, Self.row.coded.inj)) };
+    ghost light = { Prim.search rules };
 
-    ghost few = { first_of (Prim.search rules, Prim.grind (arith, Self.row.coded.inj)) };
+    ghost few = { Prim.search rules };
 
     fn range(&self) -> u32 {
         RANGE

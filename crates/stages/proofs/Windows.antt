@@ -1,6 +1,6 @@
 -- Laws of windows: what places add together, how much and on how many codes.
 use Rattle.std.proofs.Common.{◌≡◌, ℕ, ◌+◌, ◌*◌, ◌<◌, ◌≤◌, true, List, [], ◌∷◌, ◌++◌, length, get_or, take, ℤ, pos, negsuc, nat_abs, sum_by, sym, refl, ap, ◌∙◌, subst, arith}
-use Rattle.std.specs.List.{ContainsAt as Has, AllByRecursion as All}
+use Rattle.std.specs.List.{ContainsAt as Has, AllByRecursion}
 use Rattle.std.proofs.lemmas.List.Sums.{sum_by-cons, sum_by-append, sum_by_more, get_or-le-sum_by}
 use Rattle.std.proofs.ByRecursion.{sum_by_le}
 use Rattle.std.proofs.lemmas.Bool.{ltb-true, eq-eqb}
@@ -85,6 +85,6 @@ module _ {T R : Type 0} (K : Kind T R) (size : Size) (s : Stage) (f : Picture T)
 pub weights_most : (e : Element) (ps : List Place) → sum_by (weight e.order) ps ≤ length ps * 24
 weights_most e ps = sum_by_le (weight e.order) 24 ps (each ps)
   where
-    each : (qs : List Place) → All (λ p. weight e.order p ≤ 24) qs
+    each : (qs : List Place) → AllByRecursion (λ p. weight e.order p ≤ 24) qs
     each [] = tt
     each (q ∷ qs) = (weight_most e.order 24 q (order_few e) (omega arith), each qs)

@@ -36,12 +36,12 @@ grey_laws = record {
 }
 
 -- what is held to 0..255 is at least 0
-held_natAbs : (z : ℤ) → pos (unsigned_abs (held (pos 0) (pos 255) z)) ≡ held (pos 0) (pos 255) z
-held_natAbs z = omega (arith, ints, clamps)
+held_abs : (z : ℤ) → pos (unsigned_abs (held (pos 0) (pos 255) z)) ≡ held (pos 0) (pos 255) z
+held_abs z = omega (arith, ints, clamps)
 
 pub grey_whole : WholeNumbers greys (pos 0) (pos 255) grey_value
 grey_whole = record {
   limits = λ t. (omega (arith, ints), omega (arith, ints, t.within));
   order = λ t u. (λ h. omega (arith, ints), λ h. omega (arith, ints));
-  lowering = λ t a h. ap grey_value (spanned_in 255 grey_less t a h) ∙ held_natAbs (pos t.level -ℤ a);
+  lowering = λ t a h. ap grey_value (spanned_in 255 grey_less t a h) ∙ held_abs (pos t.level -ℤ a);
 }
