@@ -9,10 +9,7 @@ use crate::size::Size;
 #[derive(Clone, Copy, PartialEq, Eq, Debug)]
 pub struct Frame {
     pub size: Size,
-    ghost wide: { 1 ≤ size.width },
-    ghost narrow: { size.width ≤ 1024 },
-    ghost high: { 1 ≤ size.height },
-    ghost low: { size.height ≤ 256 },
+    ghost within: { Limits size },
 }
 
 impl Frame {
