@@ -86,13 +86,18 @@ reads_by : (file : List ℕ) (o : Result Header HeaderFault) (x : Reading) → F
 reads_by file (Ok h) x f j = judged_reads file h f x j
 reads_by file (Err g) x f j = subst (Reads file) (sym j) f
 
-pub reads : (file : List ℕ) (x : Reading) → By file (outcome file) x → Reads file x
+reads : (file : List ℕ) (x : Reading) → By file (outcome file) x → Reads file x
 reads file x j = reads_by file (outcome file) x (found file) j
 
 -- what is read so is read in no other way
-pub only : (file : List ℕ) (x : Reading) → By file (outcome file) x → (other : Reading) → Reads file other → other ≡ x
+only : (file : List ℕ) (x : Reading) → By file (outcome file) x → (other : Reading) → Reads file other → other ≡ x
 only file x j other r = by_one file (outcome file) other x (by file other r) j
 
--- a reading, from what the header comes out as
-pub by_header : (file : List ℕ) (o : Result Header HeaderFault) (x : Reading) → o ≡ outcome file → By file o x → By file (outcome file) x
-by_header file o x e j = subst (λ p. By file p x) e j
+-- all that is promised of a reading, from what the header comes out as
+abbrev pub Settled : List ℕ → Reading → Type 0
+Settled file x = record { answer : Reads file x; unambiguous : OneReading; only : (other : Reading) → Reads file other → other ≡ x }
+
+pub settled : (file : List ℕ) (o : Result Header HeaderFault) (x : Reading) → o ≡ outcome file → By file o x → Settled file x
+settled file o x e j =
+    let by_file : By file (outcome file) x = subst (λ p. By file p x) e j in
+    record { answer = reads file x by_file; unambiguous = one_reading; only = only file x by_file }

@@ -97,13 +97,13 @@ unfolding runs taken
 runs_next s file i h = rw (add-one, drop-cons file i 0)
 
 -- what is left of a file leads where the whole leads, one byte further on
-pub runs_again : (R s t : State) (file : List ℕ) (i n b : ℕ) (c : Class) → runs s i (drop i file) ≡ R →
-    Advanced file i (Some b) n → c ≡ class_of b → t ≡ after i c s → runs t n (drop n file) ≡ R
-runs_again R s t file i n b c e a q r =
+pub runs_again : (R s t : State) (file : List ℕ) (i n : ℕ) (p : ℕ × ℕ) (c : Class) → runs s i (drop i file) ≡ R →
+    Advanced file i (Some p) n → c ≡ class_of p.1 → t ≡ after p.0 c s → runs t n (drop n file) ≡ R
+runs_again R s t file i n p c e a q r =
     let h : i < length file = a.0 in
-    let m : n ≡ i + 1 = a.2 in
-    let w : c ≡ class_of (get_or file i 0) = q ∙ ap class_of a.1 in
-    let v : t ≡ after i (class_of (get_or file i 0)) s = r ∙ ap (λ x. after i x s) w in
+    let m : n ≡ i + 1 = a.3 in
+    let w : c ≡ class_of (get_or file i 0) = q ∙ ap class_of a.2 in
+    let v : t ≡ after i (class_of (get_or file i 0)) s = r ∙ ap (λ x. after x c s) a.1 ∙ ap (λ x. after i x s) w in
     rw (v, m) (sym (runs_next s file i h) ∙ e)
 
 -- where that state is final, it is where the whole file leads

@@ -12,8 +12,6 @@ use Rattle.pgm.specs.declared.machine.Known.{Known}
 use Rattle.pgm.specs.declared.machine.Known.TheVariants.{Nothing, Width, Size}
 use Rattle.pgm.specs.declared.machine.Header.{Header}
 use Rattle.pgm.specs.declared.machine.Numeral.{Numeral}
-use Rattle.pgm.specs.declared.reader.Judgement.{Judgement}
-use Rattle.pgm.specs.declared.reader.Judgement.TheVariants.{Missing, Extra, Above, Sound}
 use Rattle.pgm.specs.declared.machine.State.{State}
 use Rattle.pgm.specs.declared.machine.State.TheVariants.{Mark, Gap, Number, Comment, Raster, Refused}
 
@@ -143,22 +141,15 @@ closing n (Refused f) = Err f
 abbrev pub outcome : List ℕ → Result Header HeaderFault
 outcome file = closing (length file) (runs Mark 0 file)
 
--- the reader gives the byte n of a file, and goes on to n'
-abbrev pub Advanced : List ℕ → ℕ → Option ℕ → ℕ → Type 0
+-- the reader gives the byte n of a file with its number, and goes on to n'
+abbrev pub Advanced : List ℕ → ℕ → Option (ℕ × ℕ) → ℕ → Type 0
 Advanced file n None n' = (length file ≤ n) × (n' ≡ n)
-Advanced file n (Some b) n' = (n < length file) × (b ≡ slice_index file n) × (n' ≡ n + 1)
+Advanced file n (Some p) n' = (n < length file) × (p.0 ≡ n) × (p.1 ≡ slice_index file n) × (n' ≡ n + 1)
 
 -- the first of the samples that is above m
 abbrev pub FirstAbove : ℕ → List ℕ → Option ℕ → Type 0
 FirstAbove m xs None = (i : ℕ) → i < length xs → slice_index xs i ≤ m
 FirstAbove m xs (Some i) = (i < length xs) × (m < slice_index xs i) × ((j : ℕ) → j < i → slice_index xs j ≤ m)
-
--- how many samples there should be is count, and none should be above m
-abbrev pub Judged : List ℕ → ℕ → ℕ → Judgement → Type 0
-Judged xs count m Missing = length xs < count
-Judged xs count m Extra = count < length xs
-Judged xs count m (Above i) = (length xs ≡ count) × FirstAbove m xs (Some i)
-Judged xs count m Sound = (length xs ≡ count) × FirstAbove m xs None
 
 -- what is wrong with the samples, which begin at the byte n of a file
 abbrev pub Unsampled : List ℕ → ℕ → Header → FileFault → Type 0

@@ -19,10 +19,10 @@ pub enum Class {
     Other,
 }
 
-impl Class {
-    pub fn of(byte: u8) -> Self
-        ensures { result ≡ class_of byte }
-    {
+impl From<u8> for Class {
+    ghost from_gives = { λ byte class. class ≡ class_of byte };
+
+    fn from(byte: u8) -> Self {
         match byte {
             b'\n' | b'\r' => Class::Line,
             b'\t' | b' ' => Class::Blank,

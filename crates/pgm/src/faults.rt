@@ -5,7 +5,7 @@ ghost use Rattle.pgm.specs.Numbers.{number_of, letter_of, byte_of, header_letter
 ghost use Rattle.pgm.specs.declared.faults.FileFault.TheVariants.{Header};
 
 /// A fault of the header.
-#[derive(Clone, Copy)]
+#[derive(Clone, Copy, PartialEq, Eq, Debug)]
 pub enum HeaderFault {
     /// (a) The file does not begin with `P5`, at that byte.
     Mark(usize),
@@ -18,7 +18,7 @@ pub enum HeaderFault {
 }
 
 /// A fault of the file.
-#[derive(Clone, Copy)]
+#[derive(Clone, Copy, PartialEq, Eq, Debug)]
 pub enum FileFault {
     Header(HeaderFault),
     /// (e) Samples are missing, at the file's length, or too many, at the first extra byte.

@@ -1,12 +1,13 @@
 // The header, taken in byte by byte by a machine with six states.
 
-ghost use Rattle.std.specs.Prelude.{◌≡◌, ℕ, ◌+◌, ◌^◌, ◌<◌, ◌≤◌, Bool};
+ghost use Rattle.std.specs.Prelude.{◌≡◌, ℕ, ◌+◌, ◌*◌, ◌^◌, ◌<◌, ◌≤◌, Bool};
 ghost use Rattle.pgm.specs.Machine.{a_numeral, after, closed, closing, final, grown, limit, marked, within_limits};
 
 use crate::bytes::Class;
 use crate::faults::HeaderFault;
 
 /// The numbers that the header has named so far.
+/// Options within options have the same shape, but are no plainer: the limits and the grammar go by these three names.
 #[derive(Clone, Copy)]
 pub enum Known {
     Nothing,
@@ -58,11 +59,13 @@ impl State {
             (State::Mark, class) => marked(at, class),
             (State::Gap(known), Class::Line | Class::Blank) => State::Gap(known),
             (State::Gap(known), Class::Hash) => State::Comment(known),
-            (State::Gap(known), Class::Digit(digit)) => State::Number(begun(known, at, digit)),
+            (State::Gap(known), Class::Digit(digit)) => {
+                State::Number(Numeral::begun(known, at, digit))
+            }
             (State::Gap(_), _) => State::Refused(HeaderFault::Byte(at)),
-            (State::Number(numeral), Class::Digit(digit)) => State::Number(grown(numeral, digit)),
-            (State::Number(numeral), Class::Line | Class::Blank) => closed(numeral, at, true),
-            (State::Number(numeral), _) => closed(numeral, at, false),
+            (State::Number(numeral), Class::Digit(digit)) => State::Number(numeral.grown(digit)),
+            (State::Number(numeral), Class::Line | Class::Blank) => numeral.closed(at, true),
+            (State::Number(numeral), _) => numeral.closed(at, false),
             (State::Comment(known), Class::Line) => State::Gap(known),
             (State::Comment(known), _) => State::Comment(known),
             (State::Raster(header), _) => State::Raster(header),
@@ -74,10 +77,7 @@ impl State {
     pub fn is_final(&self) -> bool
         ensures { result ≡ final self.now }
     {
-        match self {
-            State::Raster(_) | State::Refused(_) => true,
-            _ => false,
-        }
+        matches!(self, State::Raster(_) | State::Refused(_))
     }
 
     /// What the header says where no byte is left of a file of that length.
@@ -87,14 +87,12 @@ impl State {
         match self {
             State::Raster(header) => Ok(header),
             State::Refused(fault) => Err(fault),
-            State::Number(numeral) => {
-                if within_limits(numeral) {
-                    Err(HeaderFault::Early(len))
-                } else {
-                    Err(HeaderFault::Number(numeral.first))
-                }
+            State::Number(numeral) if !numeral.is_within_limits() => {
+                Err(HeaderFault::Number(numeral.first))
             }
-            State::Mark | State::Gap(_) | State::Comment(_) => Err(HeaderFault::Early(len)),
+            State::Mark | State::Gap(_) | State::Number(_) | State::Comment(_) => {
+                Err(HeaderFault::Early(len))
+            }
         }
     }
 }
@@ -106,71 +104,86 @@ fn marked(at: usize, class: Class) -> State
     match (at, class) {
         (0, Class::Letter) => State::Mark,
         (1, Class::Digit(5)) => State::Mark,
-        (0, _) => State::Refused(HeaderFault::Mark(0)),
-        (1, _) => State::Refused(HeaderFault::Mark(1)),
+        (0 | 1, _) => State::Refused(HeaderFault::Mark(at)),
         (_, Class::Line | Class::Blank) => State::Gap(Known::Nothing),
         (_, _) => State::Refused(HeaderFault::Byte(at)),
     }
 }
 
-/// A number at its first digit.
-fn begun(known: Known, first: usize, digit: u8) -> Numeral
-    ensures { result ≡ a_numeral known first digit }
-{
-    Numeral {
-        known,
-        first,
-        value: digit as u16,
+impl Numeral {
+    /// A number at its first digit.
+    fn begun(known: Known, first: usize, digit: u8) -> Self
+        ensures { result ≡ a_numeral known first digit }
+    {
+        Numeral {
+            known,
+            first,
+            value: u16::from(digit),
+        }
+    }
+
+    /// A number with one digit more.
+    fn grown(self, digit: u8) -> Self
+        ensures { result ≡ a_numeral self.known self.first (grown self.value digit) }
+    {
+        let value = self
+            .value
+            .saturating_mul(10)
+            .saturating_add(u16::from(digit));
+        Numeral {
+            value: value.min(1025),
+            ..self
+        }
+    }
+
+    /// After a number's last digit, at the byte behind it.
+    fn closed(self, at: usize, white: bool) -> State
+        requires { at + 1 < 2 ^ 64 }
+        ensures { result ≡ closed self.known self.first self.value at white }
+    {
+        if !self.is_within_limits() {
+            return State::Refused(HeaderFault::Number(self.first));
+        }
+        if !white {
+            return State::Refused(HeaderFault::Byte(at));
+        }
+        match self.known {
+            Known::Nothing => State::Gap(Known::Width(self.value)),
+            Known::Width(width) => State::Gap(Known::Size(width, self.value)),
+            Known::Size(width, height) => State::Raster(Header {
+                width,
+                height,
+                maxval: self.value as u8,
+                end: at + 1,
+            }),
+        }
+    }
+
+    fn is_within_limits(&self) -> bool
+        ensures { result ≡ within_limits self.now.known self.now.value }
+    {
+        (1..=self.known.limit()).contains(&self.value)
     }
 }
 
-/// A number with one digit more.
-fn grown(numeral: Numeral, digit: u8) -> Numeral
-    ensures { result ≡ a_numeral numeral.known numeral.first (grown numeral.value digit) }
-{
-    Numeral {
-        known: numeral.known,
-        first: numeral.first,
-        value: (numeral.value as u32 * 10 + digit as u32).min(1025) as u16,
+impl Known {
+    /// The greatest value of the number that comes next.
+    fn limit(&self) -> u16
+        ensures { result ≡ limit self.now }
+    {
+        match self {
+            Known::Nothing => 1024,
+            Known::Width(_) => 256,
+            Known::Size(_, _) => 255,
+        }
     }
 }
 
-/// After a number's last digit, at the byte behind it.
-fn closed(numeral: Numeral, at: usize, white: bool) -> State
-    requires { at + 1 < 2 ^ 64 }
-    ensures { result ≡ closed numeral.known numeral.first numeral.value at white }
-{
-    if !within_limits(numeral) {
-        return State::Refused(HeaderFault::Number(numeral.first));
-    }
-    if !white {
-        return State::Refused(HeaderFault::Byte(at));
-    }
-    match numeral.known {
-        Known::Nothing => State::Gap(Known::Width(numeral.value)),
-        Known::Width(width) => State::Gap(Known::Size(width, numeral.value)),
-        Known::Size(width, height) => State::Raster(Header {
-            width,
-            height,
-            maxval: numeral.value as u8,
-            end: at + 1,
-        }),
-    }
-}
-
-fn within_limits(numeral: Numeral) -> bool
-    ensures { result ≡ within_limits numeral.known numeral.value }
-{
-    1 <= numeral.value && numeral.value <= limit(numeral.known)
-}
-
-/// The greatest value of the number that comes next.
-fn limit(known: Known) -> u16
-    ensures { result ≡ limit known }
-{
-    match known {
-        Known::Nothing => 1024,
-        Known::Width(_) => 256,
-        Known::Size(_, _) => 255,
+impl Header {
+    /// How many samples the picture has.
+    pub fn area(&self) -> usize
+        ensures { result ≡ self.now.width * self.now.height }
+    {
+        usize::from(self.width) * usize::from(self.height)
     }
 }

@@ -1,18 +1,17 @@
-use Rattle.std.proofs.Common.{Ok, Err, sym, refl, ap, ◌∙◌, subst}
+use Rattle.std.proofs.Common.{Ok, Err, refl, ap, ◌∙◌}
 use Rattle.std.proofs.lemmas.Result.{err_from_is_err_and}
 use Rattle.pgm.specs.Machine.{outcome}
 use Rattle.pgm.specs.Reading.Reading.{Shows, Faulty}
 use Rattle.pgm.specs.declared.faults.FileFault.TheVariants.{Header}
-use Rattle.pgm.proofs.Complete.{By, Judged}
-use Rattle.pgm.proofs.Readings.{by_header, one_reading, only, reads}
+use Rattle.pgm.proofs.Complete.{Judged}
+use Rattle.pgm.proofs.Readings.{settled}
 use Rattle.pgm.proofs.file.read.Goals as goal
 
 pub returns-in_err-header : goal.returns-in_err-header
 returns-in_err-header c =
     let p = err_from_is_err_and c.from_residual.result c.from_residual.ensures.1 in
     let e = c.in_err-header.ensures.answer ∙ ap outcome c.new-reader.ensures.file in
-    let j = by_header c.args.file.now (Err c.in_err-header.field-0.0) (Faulty (Header c.in_err-header.field-0.0)) e refl in
-    rw (p.1, p.2) (record { answer = reads _ _ j; unambiguous = one_reading; only = only _ _ j })
+    rw (p.1, p.2) (settled c.args.file.now (Err c.in_err-header.field-0.0) (Faulty (Header c.in_err-header.field-0.0)) e refl)
 
 pub returns-in_err-samples : goal.returns-in_err-samples
 returns-in_err-samples c =
@@ -21,8 +20,7 @@ returns-in_err-samples c =
     let e = c.in_ok-header.ensures.answer ∙ ap outcome c.new-reader.ensures.file in
     let u : Judged c.args.file.now c.in_ok-header.header (Faulty c.in_err-samples.field-0.0) =
     rw (c.in_ok-header.ensures.next, file) at c.in_err-samples.ensures in
-    let j = by_header c.args.file.now (Ok c.in_ok-header.header) (Faulty c.in_err-samples.field-0.0) e u in
-    rw (p.1, p.2) (record { answer = reads _ _ j; unambiguous = one_reading; only = only _ _ j })
+    rw (p.1, p.2) (settled c.args.file.now (Ok c.in_ok-header.header) (Faulty c.in_err-samples.field-0.0) e u)
 
 pub returns : goal.returns
 returns c =
@@ -30,7 +28,5 @@ returns c =
     let e = c.in_ok-header.ensures.answer ∙ ap outcome c.new-reader.ensures.file in
     let h = c.in_ok-header.header in
     let s = rw (c.in_ok-header.ensures.next, file) at c.in_ok-samples.ensures in
-    let j = by_header c.args.file.now (Ok h) (Shows h.width h.height h.maxval c.in_ok-samples.samples.now) e
-    (refl, refl, refl, s.0, s.1, s.2) in
-    let k = subst (By c.args.file.now (outcome c.args.file.now)) (sym c.picture.ensures) j in
-    record { answer = reads _ _ k; unambiguous = one_reading; only = only _ _ k }
+    rw (c.from.ensures, c.from-2.ensures)
+    (settled c.args.file.now (Ok h) (Shows h.width h.height h.maxval c.in_ok-samples.samples.now) e (refl, refl, refl, s.0, s.1, s.2))
