@@ -38,6 +38,18 @@ impl Colour {
     }
 }
 
+impl From<Colour> for ColourRow {
+    ghost from_gives = { λ t row. row ≡ parts t.hue t.saturation t.brightness };
+
+    fn from(colour: Colour) -> ColourRow {
+        ColourRow {
+            hue: colour.hue,
+            saturation: colour.saturation,
+            brightness: colour.brightness,
+        }
+    }
+}
+
 impl Tone for Colour {
     type Row = ColourRow;
 
@@ -75,23 +87,12 @@ impl Tone for Colour {
     }
 
     fn row(self) -> ColourRow {
-        ColourRow {
-            hue: self.hue,
-            saturation: self.saturation,
-            brightness: self.brightness,
-        }
+        self.into()
     }
 
     fn of_row(row: ColourRow) -> Colour
         ensures { colours.row result ≡ colours.row (colours.counted row) }
     {
-        if row.hue >= 360 {
-            return Colour::TOP;
-        }
-        Colour {
-            hue: row.hue,
-            saturation: row.saturation,
-            brightness: row.brightness,
-        }
+        Colour::new(row.hue, row.saturation, row.brightness).unwrap_or(Colour::TOP)
     }
 }

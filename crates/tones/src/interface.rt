@@ -33,10 +33,7 @@ pub trait Tone: Copy {
     fn raised(self, amount: i32) -> Self
         ensures { result ≡ kind.lowered self (neg_ℤ amount) }
     {
-        match amount.checked_neg() {
-            Some(down) => self.lowered(down),
-            None => self,
-        }
+        amount.checked_neg().map_or(self, |down| self.lowered(down))
     }
 
     /// This tone as it lies in memory.

@@ -31,10 +31,7 @@ impl Tone for Mark {
     }
 
     fn code(self) -> u32 {
-        match self {
-            Mark::No => 0,
-            Mark::Yes => 1,
-        }
+        self as u32
     }
 
     fn of_code(code: u32) -> Mark {
@@ -46,10 +43,7 @@ impl Tone for Mark {
     }
 
     fn row(self) -> bool {
-        match self {
-            Mark::No => false,
-            Mark::Yes => true,
-        }
+        matches!(self, Mark::Yes)
     }
 
     fn of_row(row: bool) -> Mark {

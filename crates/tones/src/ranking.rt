@@ -23,13 +23,10 @@ pub fn count_at_least<T: Tone>(tones: &[T::Row], tone: T) -> usize
     ensures { result ≡ at_least T.kind (T.kind.code tone) tones.now }
 {
     let least = tone.code();
-    let mut count = 0;
-    for row in tones {
-        if reaches::<T>(*row, least) {
-            count += 1;
-        }
-    }
-    count
+    tones
+        .iter()
+        .filter(|row| reaches::<T>(**row, least))
+        .count()
 }
 
 // Whether a row counts as a tone of a code or above.

@@ -5,7 +5,7 @@ ghost use Rattle.tones.specs.Refusals.{refusal_number};
 /// Why a tone is not made from its parts.
 #[derive(Clone, Copy, PartialEq, Eq, Debug)]
 pub enum ToneRefusal {
-    OutsideLimits,
+    OutsideLimits = 1,
 }
 
 impl ToneRefusal {
@@ -13,8 +13,6 @@ impl ToneRefusal {
     pub fn number(self) -> u32
         ensures { result ≡ refusal_number self }
     {
-        match self {
-            ToneRefusal::OutsideLimits => 1,
-        }
+        self as u32
     }
 }

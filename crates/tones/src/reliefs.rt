@@ -66,9 +66,6 @@ impl Tone for Relief {
     fn of_row(row: i16) -> Relief
         ensures { reliefs.row result ≡ reliefs.row (reliefs.counted row) }
     {
-        if row.unsigned_abs() > 255 {
-            return Relief { height: 255 };
-        }
-        Relief { height: row }
+        Relief::new(row).unwrap_or(Relief { height: 255 })
     }
 }
