@@ -2,6 +2,7 @@
 
 #![tactic(auto)]
 
+pub mod calls;
 mod entries;
 mod gate;
 mod histogram;

@@ -1,0 +1,113 @@
+//! Calls of a selector as values: the names of the kinds, the calls, and what they answer.
+ghost use Rattle.std.specs.Prelude.{◌≡◌, ℕ, MatchResult, ◌≢◌};
+ghost use Rattle.selectors.specs.Played.{Answered, after, call_number, name_of};
+ghost use Rattle.selectors.specs.declared.calls.CallRefusal.TheVariants as refused;
+ghost use Rattle.selectors.specs.declared.calls.Kind.{Kind as Named};
+
+use crate::refusals::{PutRefusal, SelectRefusal};
+use crate::selector::Selector;
+use std::str::FromStr;
+
+/// One of the three selectors.
+#[derive(Clone, Copy, PartialEq, Eq, Debug)]
+pub enum Kind {
+    Gate,
+    Histogram,
+    Ladder,
+}
+
+/// No selector has the name.
+#[derive(Clone, Copy, PartialEq, Eq, Debug)]
+pub struct UnknownKind;
+
+/// Reads a selector's name.
+impl FromStr for Kind {
+    type Err = UnknownKind;
+
+    ghost from_str_gives = { λ w r. MatchResult r (λ k. w ≡ name_of k) (λ _. (k : Named) → w ≢ name_of k) };
+
+    fn from_str(name: &str) -> Result<Kind, UnknownKind> {
+        match name {
+            "gate" => Ok(Kind::Gate),
+            "histogram" => Ok(Kind::Histogram),
+            "ladder" => Ok(Kind::Ladder),
+            _ => Err(UnknownKind),
+        }
+    }
+}
+
+/// A call of a selector.
+#[derive(Clone, Copy, PartialEq, Eq, Debug)]
+pub enum Call {
+    /// A code and the weight that it is given.
+    Put(u32, u32),
+    Total,
+    /// A rank.
+    Select(u32),
+    Empty,
+}
+
+/// What a call answers.
+#[derive(Clone, Copy, PartialEq, Eq, Debug)]
+pub enum Reply {
+    Done,
+    Total(u32),
+    Code(u32),
+}
+
+/// Why a call is refused.
+#[derive(Clone, Copy, PartialEq, Eq, Debug)]
+pub enum CallRefusal {
+    Put(PutRefusal),
+    Select(SelectRefusal),
+}
+
+impl CallRefusal {
+    /// The refusal's number.
+    pub fn number(self) -> u32
+        ensures { result ≡ call_number self }
+    {
+        match self {
+            CallRefusal::Put(refusal) => refusal.number(),
+            CallRefusal::Select(refusal) => refusal.number(),
+        }
+    }
+}
+
+impl From<PutRefusal> for CallRefusal {
+    ghost from_gives = { λ r e. e ≡ refused.Put r };
+
+    fn from(refusal: PutRefusal) -> CallRefusal {
+        CallRefusal::Put(refusal)
+    }
+}
+
+impl From<SelectRefusal> for CallRefusal {
+    ghost from_gives = { λ r e. e ≡ refused.Select r };
+
+    fn from(refusal: SelectRefusal) -> CallRefusal {
+        CallRefusal::Select(refusal)
+    }
+}
+
+/// Makes the call.
+pub fn play<S: Selector>(selector: &mut S, call: Call) -> Result<Reply, CallRefusal>
+    requires { S.ordered selector.old }
+    ensures answer { Answered (S.weight selector.old) (S.range selector.old) call result }
+    ensures weights { (c : ℕ) → S.weight selector.new c ≡ after (S.weight selector.old) (S.range selector.old) call c }
+    ensures range_kept { S.range selector.new ≡ S.range selector.old }
+    ensures in_order { S.ordered selector.new }
+{
+    match call {
+        Call::Put(code, weight) => {
+            selector.put(code, weight)?;
+            Ok(Reply::Done)
+        }
+        Call::Total => Ok(Reply::Total(selector.total())),
+        Call::Select(rank) => Ok(Reply::Code(selector.select(rank)?)),
+        Call::Empty => {
+            selector.empty();
+            Ok(Reply::Done)
+        }
+    }
+}
