@@ -7,7 +7,8 @@ use Rattle.std.proofs.lemmas.Bool.Decides.{nat_tests}
 use Rattle.std.proofs.lemmas.Bool.{and_parts, cases_lt}
 use Rattle.recipes.specs.declared.places.Place.{Place}
 use Rattle.recipes.specs.declared.element.Element.{Element}
-use Rattle.recipes.specs.Places.{all, origin, limited, stands_at, core, Limits}
+use Rattle.recipes.specs.Places.{origin, limited, stands_at, core, Limits}
+use Rattle.std.specs.List.{list_all}
 use Rattle.recipes.specs.Lawful.{lawful_order}
 use Rattle.recipes.specs.Placed.{placed}
 use Rattle.recipes.specs.Reaches.{reach, Greatest}
@@ -19,10 +20,9 @@ use Rattle.recipes.proofs.Arrays.{length_placed}
 pub placed_few : (e : Element) → length (placed e) ≤ 49
 placed_few e = omega (arith, length_placed e, e.within)
 
-all_limits : (ps : List Place) → all limited ps ≡ true → AllByRecursion Limits ps
-unfolding all
+all_limits : (ps : List Place) → list_all limited ps ≡ true → AllByRecursion Limits ps
 all_limits [] e = tt
-all_limits (p ∷ ps) e = let a = and_parts (limited p) (all limited ps) e in (limits p a.0, all_limits ps a.1)
+all_limits (p ∷ ps) e = let a = and_parts (limited p) (list_all limited ps) e in (limits p a.0, all_limits ps a.1)
 
 pub places_limited : (e : Element) → AllByRecursion Limits (placed e)
 places_limited e = all_limits (placed e) (sound (placed e) e.order e.sound).inside

@@ -7,7 +7,7 @@ use Rattle.std.proofs.lemmas.List.{take_more_set, take_all, append-nil}
 use Rattle.recipes.specs.declared.places.Place.{Place}
 use Rattle.recipes.specs.declared.shapes.Shape.{Shape}
 use Rattle.recipes.specs.declared.shapes.Shape.TheVariants.{Cross, Square3, Octagon5, Square7}
-use Rattle.recipes.specs.Places.{any, all, origin}
+use Rattle.recipes.specs.Places.{origin}
 use Rattle.recipes.specs.Lawful.{lawful, apart}
 use Rattle.recipes.specs.Shapes.{in_shape, standard_place, standard_places, grid}
 
@@ -50,7 +50,7 @@ met_all s n h = rw (take_all n grid (omega (arith, length_grid)))
 
 -- each shape makes an element of order 1
 pub shape_lawful : (s : Shape) → lawful (standard_places s) 1 ≡ true
-unfolding lawful standard_places grid any all apart
+unfolding lawful standard_places grid apart
 shape_lawful Cross = refl
 shape_lawful Square3 = refl
 shape_lawful Octagon5 = refl

@@ -5,7 +5,8 @@ use Rattle.std.proofs.lemmas.List.Sums.{sum_by_push}
 use Rattle.std.proofs.lemmas.Bool.Decides.{nat_tests}
 use Rattle.std.proofs.lemmas.Bool.{and_parts, and_from, or_parts, or_left, not-true, not_from_false}
 use Rattle.recipes.specs.declared.places.Place.{Place}
-use Rattle.recipes.specs.Places.{any, all, stands_at, taken, in_limits, limited, core, soft, amended}
+use Rattle.recipes.specs.Places.{stands_at, taken, in_limits, limited, core, soft, amended}
+use Rattle.std.specs.List.{list_any, list_all}
 use Rattle.recipes.specs.Lawful.{apart, lawful, lawful_order}
 use Rattle.recipes.proofs.Passing.{any_push, all_push, any_map, all_map, countBy_map}
 use Rattle.recipes.proofs.Spots.{stands_flip}
@@ -17,17 +18,17 @@ central p = stands_at (pos 0) (pos 0) p && core p
 
 -- the four parts of being lawful
 pub record Sound (ps : List Place) (k : ℕ) : Type 0 where
-  pub centred : any central ps ≡ true
-  pub inside : all limited ps ≡ true
+  pub centred : list_any central ps ≡ true
+  pub inside : list_all limited ps ≡ true
   pub single : apart ps ≡ true
   pub ordered : lawful_order ps k ≡ true
 
 pub sound : (ps : List Place) (k : ℕ) → lawful ps k ≡ true → Sound ps k
 unfolding lawful
 sound ps k e =
-    let a = and_parts (any central ps && all limited ps && apart ps) (lawful_order ps k) e in
-    let b = and_parts (any central ps && all limited ps) (apart ps) a.0 in
-    let d = and_parts (any central ps) (all limited ps) b.0 in
+    let a = and_parts (list_any central ps && list_all limited ps && apart ps) (lawful_order ps k) e in
+    let b = and_parts (list_any central ps && list_all limited ps) (apart ps) a.0 in
+    let d = and_parts (list_any central ps) (list_all limited ps) b.0 in
     record { centred = d.0; inside = d.1; single = b.1; ordered = a.1 }
 
 pub lawful_from : (ps : List Place) (k : ℕ) → Sound ps k → lawful ps k ≡ true
@@ -36,7 +37,7 @@ lawful_from ps k s = rw (s.centred, s.inside, s.single, s.ordered)
 
 -- a place where none stands
 apart_push : (ps : List Place) (p : Place) → apart ps ≡ true → taken p.dx p.dy ps ≡ false → apart (ps ++ p ∷ []) ≡ true
-unfolding apart any
+unfolding apart
 apart_push [] p a t = refl
 apart_push (q ∷ ps) p a t =
     let b = and_parts (not (taken q.dx q.dy ps)) (apart ps) a in
@@ -55,8 +56,8 @@ module _ (ps : List Place) (p : Place) (k : ℕ) (ok : lawful ps k ≡ true) (in
   lawful_push =
       let s = sound ps k ok in
       lawful_from (ps ++ p ∷ []) k (record {
-        centred = any_push central ps p ∙ or_left (any central ps) (central p) s.centred;
-        inside = all_push limited ps p ∙ and_from (all limited ps) (limited p) s.inside in';
+        centred = any_push central ps p ∙ or_left (list_any central ps) (central p) s.centred;
+        inside = all_push limited ps p ∙ and_from (list_all limited ps) (limited p) s.inside in';
         single = apart_push ps p s.single free;
         ordered = order_push ps p k s.ordered;
       })
@@ -65,7 +66,7 @@ module _ (ps : List Place) (p : Place) (k : ℕ) (ok : lawful ps k ≡ true) (in
   pub room_push : length ps < 49
   room_push =
       let s = sound ps k ok in
-      omega (arith, length_push ps p, room (ps ++ p ∷ []) (all_push limited ps p ∙ and_from (all limited ps) (limited p) s.inside in') (apart_push ps p s.single free))
+      omega (arith, length_push ps p, room (ps ++ p ∷ []) (all_push limited ps p ∙ and_from (list_all limited ps) (limited p) s.inside in') (apart_push ps p s.single free))
 
 -- an amount in its limits
 module _ (dx dy amount : ℤ) where

@@ -4,7 +4,8 @@ use Rattle.std.proofs.lemmas.List.Sums.{sum_by-cons}
 use Rattle.std.proofs.lemmas.Bool.Decides.{nat_tests}
 use Rattle.std.proofs.lemmas.Bool.{and_parts, or_parts, leb-true, lt-ltb, eqb-true, not-true, both_ways}
 use Rattle.recipes.specs.declared.places.Place.{Place}
-use Rattle.recipes.specs.Places.{any, all, stands_at, taken, limited, Limits}
+use Rattle.recipes.specs.Places.{stands_at, taken, limited, Limits}
+use Rattle.std.specs.List.{list_all}
 use Rattle.recipes.specs.Lawful.{apart}
 use Rattle.recipes.proofs.Spots.{same_itself}
 
@@ -67,11 +68,10 @@ in_cells_suc n (p ∷ ps) =
     omega (arith, here n (cell p), in_cells_suc n ps)
 
 -- the cell of a place that stands apart from all others is theirs no more
-in_cell_none : (p : Place) (ps : List Place) → Limits p → all limited ps ≡ true → taken p.dx p.dy ps ≡ false → in_cell (cell p) ps ≡ 0
-unfolding all any
+in_cell_none : (p : Place) (ps : List Place) → Limits p → list_all limited ps ≡ true → taken p.dx p.dy ps ≡ false → in_cell (cell p) ps ≡ 0
 in_cell_none p [] l e t = refl
 in_cell_none p (q ∷ ps) l e t =
-    let a = and_parts (limited q) (all limited ps) e in
+    let a = and_parts (limited q) (list_all limited ps) e in
     let b = or_parts (stands_at p.dx p.dy q) (taken p.dx p.dy ps) t in
     let d = sum_by-cons (λ r. cond {A = ℕ} (eqb (cell r) (cell p)) 1 0) q ps in
     let go : (x : Bool) → eqb (cell q) (cell p) ≡ x → cond {A = ℕ} x 1 0 ≡ 0 = λ x. elim x as (λ x. eqb (cell q) (cell p) ≡ x → cond {A = ℕ} x 1 0 ≡ 0) [
@@ -80,11 +80,11 @@ in_cell_none p (q ∷ ps) l e t =
     ] in
     omega (arith, go (eqb (cell q) (cell p)) refl, in_cell_none p ps l a.1 b.1)
 
-in_cell_once : (n : ℕ) (ps : List Place) → all limited ps ≡ true → apart ps ≡ true → in_cell n ps ≤ 1
-unfolding all apart
+in_cell_once : (n : ℕ) (ps : List Place) → list_all limited ps ≡ true → apart ps ≡ true → in_cell n ps ≤ 1
+unfolding apart
 in_cell_once n [] e t = omega arith
 in_cell_once n (p ∷ ps) e t =
-    let a = and_parts (limited p) (all limited ps) e in
+    let a = and_parts (limited p) (list_all limited ps) e in
     let b = and_parts (not (taken p.dx p.dy ps)) (apart ps) t in
     let d = sum_by-cons (λ r. cond {A = ℕ} (eqb (cell r) n) 1 0) p ps in
     let go : (x : Bool) → eqb (cell p) n ≡ x → cond {A = ℕ} x 1 0 + in_cell n ps ≤ 1 = λ x. elim x as (λ x. eqb (cell p) n ≡ x → cond {A = ℕ} x 1 0 + in_cell n ps ≤ 1) [
@@ -100,18 +100,17 @@ in_cells_zero (p ∷ ps) =
     let h : cond {A = ℕ} (ltb (cell p) 0) 1 0 ≡ 0 = grind (arith, nat_tests) in
     omega (arith, in_cells_zero ps)
 
-in_cells_few : (n : ℕ) (ps : List Place) → all limited ps ≡ true → apart ps ≡ true → in_cells n ps ≤ n
+in_cells_few : (n : ℕ) (ps : List Place) → list_all limited ps ≡ true → apart ps ≡ true → in_cells n ps ≤ n
 in_cells_few zero ps e t = omega (arith, in_cells_zero ps)
 in_cells_few (suc n) ps e t = omega (arith, in_cells_suc n ps, in_cells_few n ps e t, in_cell_once n ps e t)
 
-in_cells_all : (ps : List Place) → all limited ps ≡ true → in_cells 49 ps ≡ length ps
-unfolding all
+in_cells_all : (ps : List Place) → list_all limited ps ≡ true → in_cells 49 ps ≡ length ps
 in_cells_all [] e = refl
 in_cells_all (p ∷ ps) e =
-    let a = and_parts (limited p) (all limited ps) e in
+    let a = and_parts (limited p) (list_all limited ps) e in
     let d = sum_by-cons (λ r. cond {A = ℕ} (ltb (cell r) 49) 1 0) p ps in
     let h : cond {A = ℕ} (ltb (cell p) 49) 1 0 ≡ 1 = rw (lt-ltb (cell p) 49 (cell_below p (limits p a.0))) in
     omega (arith, in_cells_all ps a.1)
 
-pub room : (ps : List Place) → all limited ps ≡ true → apart ps ≡ true → length ps ≤ 49
+pub room : (ps : List Place) → list_all limited ps ≡ true → apart ps ≡ true → length ps ≤ 49
 room ps e t = omega (arith, in_cells_all ps e, in_cells_few 49 ps e t)

@@ -1,7 +1,8 @@
 -- Which places and order make an element. Assumes nothing.
 use Rattle.std.specs.Prelude.{ℕ, ◌*◌, Bool, true, not, ◌&&◌, ◌||◌, List, [], ◌∷◌, length, pos, count_by, ◌==◌, nat_le, nat_lt}
 use Rattle.recipes.specs.declared.places.Place.{Place}
-use Rattle.recipes.specs.Places.{any, all, taken, stands_at, limited, core, soft}
+use Rattle.std.specs.List.{list_any, list_all}
+use Rattle.recipes.specs.Places.{taken, stands_at, limited, core, soft}
 
 -- no two places stand at the same offsets
 unfoldable pub apart : List Place → Bool
@@ -14,4 +15,4 @@ lawful_order ps k = k == 1 || (nat_lt 1 k && nat_le (2 * k) (length ps) && nat_l
 
 -- the origin is in the core, each place is in its limits, none stands twice, and the order is lawful
 unfoldable pub lawful : List Place → ℕ → Bool
-lawful ps k = any (λ p. stands_at (pos 0) (pos 0) p && core p) ps && all limited ps && apart ps && lawful_order ps k
+lawful ps k = list_any (λ p. stands_at (pos 0) (pos 0) p && core p) ps && list_all limited ps && apart ps && lawful_order ps k

@@ -1,17 +1,8 @@
 -- What the places of a structuring element are. Assumes nothing.
-use Rattle.std.specs.Prelude.{◌≤◌, Bool, true, false, cond, ◌&&◌, ◌||◌, List, [], ◌∷◌, ℤ, pos, negsuc, ◌==◌, nat_le, unsigned_abs}
+use Rattle.std.specs.Prelude.{◌≤◌, Bool, true, false, cond, ◌&&◌, List, ℤ, pos, negsuc, ◌==◌, nat_le, unsigned_abs}
+use Rattle.std.specs.List.{list_any}
 use Rattle.recipes.specs.declared.places.Part.TheVariants.{Core, Soft}
 use Rattle.recipes.specs.declared.places.Place.{Place}
-
--- some item of a list passes a test
-unfoldable pub any : {X : Type 0} → (X → Bool) → List X → Bool
-any test [] = false
-any test (x ∷ xs) = test x || any test xs
-
--- every item of a list passes a test
-unfoldable pub all : {X : Type 0} → (X → Bool) → List X → Bool
-all test [] = true
-all test (x ∷ xs) = test x && all test xs
 
 -- the same whole number
 abbrev pub same : ℤ → ℤ → Bool
@@ -30,7 +21,7 @@ stands_at dx dy p = same p.dx dx && same p.dy dy
 
 -- one of the places stands there
 abbrev pub taken : ℤ → ℤ → List Place → Bool
-taken dx dy ps = any (stands_at dx dy) ps
+taken dx dy ps = list_any (stands_at dx dy) ps
 
 -- offsets are from −3 to 3, amounts from −1,024 to 1,024
 abbrev pub in_limits : ℤ → ℤ → ℤ → Bool

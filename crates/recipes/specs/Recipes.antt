@@ -1,5 +1,5 @@
 -- What the stages of a recipe are. Assumes nothing.
-use Rattle.std.specs.Prelude.{◌≡◌, ℕ, ◌<◌, ◌≤◌, Bool, List, [], ◌∷◌, length, take, Ok, Err, Result, nat_le, unsigned_abs}
+use Rattle.std.specs.Prelude.{◌≡◌, ℕ, ◌<◌, ◌≤◌, Bool, List, [], ◌∷◌, map, length, take, Ok, Err, Result, nat_le, unsigned_abs}
 use Rattle.std.specs.List.{flat_map}
 use Rattle.recipes.specs.declared.draft.Draft.{Draft}
 use Rattle.recipes.specs.declared.draft.Letter.{Letter}
@@ -7,13 +7,14 @@ use Rattle.recipes.specs.declared.draft.Letter.TheVariants as letter
 use Rattle.recipes.specs.declared.draft.Step.{Step}
 use Rattle.recipes.specs.declared.element.Element.{Element}
 use Rattle.recipes.specs.declared.places.Place.{Place}
+use Rattle.recipes.specs.declared.recipe.Operation.{Operation}
 use Rattle.recipes.specs.declared.recipe.Operation.TheVariants.{Erosion, Dilation}
 use Rattle.recipes.specs.declared.recipe.Recipe.{Recipe}
 use Rattle.recipes.specs.declared.recipe.Stage.{Stage}
 use Rattle.recipes.specs.declared.refusals.DraftRefusal.{DraftRefusal}
 use Rattle.recipes.specs.declared.refusals.DraftRefusal.TheVariants.{UnknownLetter, Full, TooFew}
 use Rattle.recipes.specs.Drafts.{steps_of}
-use Rattle.recipes.specs.Places.{all}
+use Rattle.std.specs.List.{list_all}
 use Rattle.recipes.specs.Placed.{placed}
 
 -- the stages of a recipe
@@ -26,12 +27,20 @@ eroding e = record { operation = Erosion; element = e }
 abbrev pub dilating : Element → Stage
 dilating e = record { operation = Dilation; element = e }
 
--- E is one erosion, D one dilation, O an erosion and then a dilation, C a dilation and then an erosion, with the same element
+-- E is one erosion, D one dilation, O an erosion and then a dilation, C a dilation and then an erosion
+abbrev pub operations_by : Letter → List Operation
+operations_by letter.Erosion = Erosion ∷ []
+operations_by letter.Dilation = Dilation ∷ []
+operations_by letter.Opening = Erosion ∷ Dilation ∷ []
+operations_by letter.Closing = Dilation ∷ Erosion ∷ []
+
+-- an operation with an element
+abbrev pub stage_with : Element → Operation → Stage
+stage_with e o = record { operation = o; element = e }
+
+-- a letter's operations, with the same element
 abbrev pub stages_by : Letter → Element → List Stage
-stages_by letter.Erosion e = eroding e ∷ []
-stages_by letter.Dilation e = dilating e ∷ []
-stages_by letter.Opening e = eroding e ∷ dilating e ∷ []
-stages_by letter.Closing e = dilating e ∷ eroding e ∷ []
+stages_by l e = map (stage_with e) (operations_by l)
 
 abbrev pub stages_of_step : Step → List Stage
 stages_of_step s = stages_by s.letter s.element
@@ -49,8 +58,8 @@ Finished d (Err Full) = ⊥
 
 -- every amount of some places is from −span to span
 abbrev pub places_within : ℕ → List Place → Bool
-places_within span ps = all (λ p. nat_le (unsigned_abs p.amount) span) ps
+places_within span ps = list_all (λ p. nat_le (unsigned_abs p.amount) span) ps
 
 -- every amount of every stage is
 abbrev pub amounts_within : ℕ → List Stage → Bool
-amounts_within span ss = all (λ s. places_within span (placed s.element)) ss
+amounts_within span ss = list_all (λ s. places_within span (placed s.element)) ss

@@ -1,6 +1,7 @@
 -- The standard shapes. Assumes nothing.
 use Rattle.std.specs.Prelude.{◌≡◌, ℕ, ◌+◌, Bool, true, cond, not, ◌&&◌, List, [], ◌∷◌, map, ℤ, pos, negsuc, Some, None, Ok, Err, filter, Option, Result, ◌==◌, nat_le, unsigned_abs}
 use Rattle.std.specs.List.{flat_map, ContainsAt as Has}
+use Rattle.std.specs.Option.{ok_or}
 use Rattle.recipes.specs.declared.places.Part.TheVariants.{Core, Soft}
 use Rattle.recipes.specs.declared.places.Place.{Place}
 use Rattle.recipes.specs.declared.refusals.ElementRefusal.{ElementRefusal}
@@ -12,6 +13,10 @@ use Rattle.recipes.specs.Places.{same}
 -- the shapes by their numbers
 abbrev pub shape_of : ℕ → Option Shape
 shape_of i = cond (i == 0) (Some Cross) (cond (i == 1) (Some Square3) (cond (i == 2) (Some Octagon5) (cond (i == 3) (Some Square7) None)))
+
+-- the shape of a number, or the refusal of a number that no shape has
+abbrev pub Numbered : ℕ → Result Shape ElementRefusal → Type 0
+Numbered i r = r ≡ ok_or (shape_of i) UnknownShape
 
 -- the offsets that lie in a shape
 abbrev pub in_shape : Shape → ℤ → ℤ → Bool

@@ -21,6 +21,7 @@ pub struct Step {
 }
 
 /// At most 4 steps, the first `count` of the array, and no more than declared. A draft moves: it is neither copied nor cloned.
+/// A fixed array, since nothing here allocates; the kit's `ArrayVec` asks for a `Default` of what it holds, and a step has none.
 #[derive(Drop)]
 pub struct Draft {
     pub(crate) steps: [Step; 4],

@@ -40,7 +40,7 @@ impl Element {
         if !in_limits(dx, dy, amount) {
             return Err(ElementRefusal::Outside);
         }
-        if taken(self.places(), dx, dy) {
+        if self.taken(dx, dy) {
             return Err(ElementRefusal::Taken);
         }
         self.push(Place {
@@ -62,7 +62,7 @@ impl Element {
         if !in_limits(dx, dy, amount) {
             return Err(ElementRefusal::Outside);
         }
-        if !taken(self.places(), dx, dy) {
+        if !self.taken(dx, dy) {
             return Err(ElementRefusal::Missing);
         }
         amend(&mut self.places, dx, dy, amount);
@@ -76,7 +76,7 @@ impl Element {
         ensures order { self.new.order ≡ (if is_ok result then k else self.old.order) }
         ensures kept { OnErr result (self.new ≡ self.old) }
     {
-        if !lawful_order(self.places(), k) {
+        if !self.lawful_order(k) {
             return Err(ElementRefusal::UnlawfulOrder);
         }
         self.order = k;
@@ -93,6 +93,27 @@ impl Element {
         self.places[self.count] = place;
         self.count += 1;
     }
+
+    /// Whether a place stands at these offsets.
+    fn taken(&self, dx: i32, dy: i32) -> bool
+        ensures { result ≡ taken dx dy (placed self.now) }
+    {
+        self.places().iter().any(|place| place.stands_at(dx, dy))
+    }
+
+    /// The number of soft places.
+    fn softs(&self) -> usize
+        ensures { result ≡ count_by soft (placed self.now) }
+    {
+        self.places().iter().filter(|place| place.is_soft()).count()
+    }
+
+    /// Whether an order index is lawful for the places.
+    fn lawful_order(&self, k: u32) -> bool
+        ensures { result ≡ lawful_order (placed self.now) k }
+    {
+        k == 1 || k > 1 && 2 * k as usize <= self.places().len() && k as usize <= self.softs()
+    }
 }
 
 /// Whether offsets and amount are in their limits.
@@ -102,18 +123,6 @@ fn in_limits(dx: i32, dy: i32, amount: i32) -> bool
     dx.unsigned_abs() <= 3 && dy.unsigned_abs() <= 3 && amount.unsigned_abs() <= 1024
 }
 
-/// Whether one of the places stands at these offsets.
-fn taken(places: &[Place], dx: i32, dy: i32) -> bool
-    ensures { result ≡ taken dx dy places.now }
-{
-    for place in places {
-        if place.stands_at(dx, dy) {
-            return true;
-        }
-    }
-    false
-}
-
 /// Sets the amount of what stands at these offsets.
 fn amend(places: &mut [Place], dx: i32, dy: i32, amount: i32)
     ensures { places.new ≡ map (amended dx dy amount) places.old }
@@ -121,24 +130,4 @@ fn amend(places: &mut [Place], dx: i32, dy: i32, amount: i32)
     for place in places.iter_mut() {
         *place = place.amended(dx, dy, amount);
     }
-}
-
-/// The number of soft places.
-fn softs(places: &[Place]) -> usize
-    ensures { result ≡ count_by soft places.now }
-{
-    let mut n = 0;
-    for place in places {
-        if place.is_soft() {
-            n += 1;
-        }
-    }
-    n
-}
-
-/// Whether an order index is lawful for these places.
-fn lawful_order(places: &[Place], k: u32) -> bool
-    ensures { result ≡ lawful_order places.now k }
-{
-    k == 1 || k > 1 && 2 * k as usize <= places.len() && k as usize <= softs(places)
 }

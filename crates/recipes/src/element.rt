@@ -6,6 +6,7 @@ ghost use Rattle.std.specs.Prelude.{◌≡◌, ◌≤◌, true, length, take};
 use crate::places::Place;
 
 /// At most 49 places, the first `count` of the array, and the order index. The origin is in the core, no place stands twice, and the order is lawful.
+/// A fixed array, since nothing here allocates; the kit's `ArrayVec` is not `Copy`.
 #[derive(Clone, Copy)]
 pub struct Element {
     pub(crate) places: [Place; 49],

@@ -4,14 +4,14 @@ ghost use Rattle.recipes.specs.Places.{stands_at, amended, soft};
 ghost use Rattle.std.specs.Prelude.{◌≡◌};
 
 /// The part of an element that a place belongs to: its core or its soft boundary.
-#[derive(Clone, Copy)]
+#[derive(Clone, Copy, PartialEq, Eq, Debug)]
 pub enum Part {
     Core,
     Soft,
 }
 
 /// A place: its offsets from the origin, its part and its amount.
-#[derive(Clone, Copy)]
+#[derive(Clone, Copy, PartialEq, Eq, Debug)]
 pub struct Place {
     pub dx: i32,
     pub dy: i32,
@@ -32,12 +32,7 @@ impl Place {
         ensures { result ≡ amended dx dy amount self.now }
     {
         if self.stands_at(dx, dy) {
-            Place {
-                dx: self.dx,
-                dy: self.dy,
-                part: self.part,
-                amount,
-            }
+            Place { amount, ..*self }
         } else {
             *self
         }
@@ -47,9 +42,6 @@ impl Place {
     pub(crate) fn is_soft(&self) -> bool
         ensures { result ≡ soft self.now }
     {
-        match self.part {
-            Part::Core => false,
-            Part::Soft => true,
-        }
+        self.part == Part::Soft
     }
 }

@@ -10,7 +10,7 @@ use crate::element::Element;
 use crate::places::Place;
 
 /// How far an element reaches from its origin: the greatest |dx| and the greatest |dy| of its places.
-#[derive(Clone, Copy)]
+#[derive(Clone, Copy, Default, PartialEq, Eq, Debug)]
 pub struct Reach {
     pub x: u32,
     pub y: u32,
@@ -23,14 +23,7 @@ impl Element {
         ensures few { length result.now ≤ 49 }
         ensures limits { (i : ℕ) (d : Place) → i < length result.now → Limits (slice_index_or result.now i d) }
     {
-        self.used()
-    }
-
-    /// The part of the array that is used.
-    fn used(&self) -> &[Place]
-        ensures { result.now ≡ placed self.now }
-    {
-        &self.places[0..self.count]
+        &self.places[..self.count]
     }
 
     /// The order index.
@@ -48,29 +41,21 @@ impl Element {
         ensures greatest_down { Greatest (λ p. p.dy) (placed self.now) result.y }
         ensures near { (result.x ≤ 3) × (result.y ≤ 3) }
     {
-        reach_of(self.places())
+        self.places()
+            .iter()
+            .fold(Reach::default(), |reach, place| reach.widened(place))
     }
 }
 
-/// The greatest |dx| and |dy| of some places.
-fn reach_of(places: &[Place]) -> Reach
-    ensures across { result.x ≡ reach (λ p. p.dx) places.now }
-    ensures down { result.y ≡ reach (λ p. p.dy) places.now }
-{
-    let mut reach = Reach { x: 0, y: 0 };
-    for place in places {
-        reach = widened(reach, place);
-    }
-    reach
-}
-
-/// A reach, widened to hold a place.
-fn widened(old: Reach, place: &Place) -> Reach
-    ensures across { result.x ≡ max old.x (unsigned_abs place.now.dx) }
-    ensures down { result.y ≡ max old.y (unsigned_abs place.now.dy) }
-{
-    Reach {
-        x: old.x.max(place.dx.unsigned_abs()),
-        y: old.y.max(place.dy.unsigned_abs()),
+impl Reach {
+    /// The reach, widened to hold a place.
+    fn widened(self, place: &Place) -> Reach
+        ensures across { result.x ≡ max self.x (unsigned_abs place.now.dx) }
+        ensures down { result.y ≡ max self.y (unsigned_abs place.now.dy) }
+    {
+        Reach {
+            x: self.x.max(place.dx.unsigned_abs()),
+            y: self.y.max(place.dy.unsigned_abs()),
+        }
     }
 }

@@ -5,7 +5,7 @@ ghost use Rattle.std.specs.Prelude.{◌≡◌, ◌≤◌, length};
 use crate::element::Element;
 
 /// What a stage does.
-#[derive(Clone, Copy)]
+#[derive(Clone, Copy, PartialEq, Eq, Debug)]
 pub enum Operation {
     Erosion,
     Dilation,
@@ -18,7 +18,7 @@ pub struct Stage {
     pub element: Element,
 }
 
-/// At most 8 stages, the first `count` of the array.
+/// At most 8 stages, the first `count` of the array. A fixed array, since nothing here allocates; the kit's `ArrayVec` is not `Copy`.
 #[derive(Clone, Copy)]
 pub struct Recipe {
     pub(crate) stages: [Stage; 8],

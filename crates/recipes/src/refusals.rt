@@ -7,26 +7,26 @@ ghost use Rattle.std.specs.Prelude.{◌≡◌};
 #[derive(Clone, Copy, PartialEq, Eq, Debug)]
 pub enum ElementRefusal {
     /// An offset or the amount is outside its limits.
-    Outside,
+    Outside = 6,
     /// A place stands there already.
-    Taken,
+    Taken = 7,
     /// No place stands there.
-    Missing,
+    Missing = 8,
     /// No standard shape has that number.
-    UnknownShape,
+    UnknownShape = 9,
     /// The order index is not lawful for the element's places.
-    UnlawfulOrder,
+    UnlawfulOrder = 10,
 }
 
 /// Why a step is not added to a draft, or a draft makes no recipe.
 #[derive(Clone, Copy, PartialEq, Eq, Debug)]
 pub enum DraftRefusal {
     /// The letter is none of E, D, O and C.
-    UnknownLetter,
+    UnknownLetter = 11,
     /// The draft has 4 steps, or as many as declared.
-    Full,
+    Full = 12,
     /// The draft has fewer steps than declared.
-    TooFew,
+    TooFew = 19,
 }
 
 impl ElementRefusal {
@@ -34,13 +34,7 @@ impl ElementRefusal {
     pub fn number(&self) -> u32
         ensures { result ≡ element_number self.now }
     {
-        match self {
-            ElementRefusal::Outside => 6,
-            ElementRefusal::Taken => 7,
-            ElementRefusal::Missing => 8,
-            ElementRefusal::UnknownShape => 9,
-            ElementRefusal::UnlawfulOrder => 10,
-        }
+        *self as u32
     }
 }
 
@@ -49,10 +43,6 @@ impl DraftRefusal {
     pub fn number(&self) -> u32
         ensures { result ≡ draft_number self.now }
     {
-        match self {
-            DraftRefusal::UnknownLetter => 11,
-            DraftRefusal::Full => 12,
-            DraftRefusal::TooFew => 19,
-        }
+        *self as u32
     }
 }

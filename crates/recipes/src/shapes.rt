@@ -22,20 +22,26 @@ pub enum Shape {
     Square7,
 }
 
-impl Shape {
-    /// The shape of a number, from 0 to 3.
-    pub(crate) fn numbered(i: u32) -> Option<Shape>
-        ensures { result ≡ shape_of i }
-    {
+impl TryFrom<u32> for Shape {
+    type Error = ElementRefusal;
+
+    ghost use Rattle.recipes.specs.Shapes.{Numbered};
+
+    ghost try_from_gives = { Numbered };
+
+    /// The shape of a number, from 0 to 3. Refused above 3 (9).
+    fn try_from(i: u32) -> Result<Shape, ElementRefusal> {
         match i {
-            0 => Some(Shape::Cross),
-            1 => Some(Shape::Square3),
-            2 => Some(Shape::Octagon5),
-            3 => Some(Shape::Square7),
-            _ => None,
+            0 => Ok(Shape::Cross),
+            1 => Ok(Shape::Square3),
+            2 => Ok(Shape::Octagon5),
+            3 => Ok(Shape::Square7),
+            _ => Err(ElementRefusal::UnknownShape),
         }
     }
+}
 
+impl Shape {
     /// Whether the offsets lie in the shape.
     pub(crate) fn contains(self, dx: i32, dy: i32) -> bool
         ensures { result ≡ in_shape self dx dy }
@@ -59,13 +65,8 @@ impl Element {
         ensures order { self.new.order ≡ (if is_ok result then 1 else self.old.order) }
         ensures kept { OnErr result (self.new ≡ self.old) }
     {
-        match Shape::numbered(i) {
-            Some(shape) => {
-                *self = shaped(shape);
-                Ok(())
-            }
-            None => Err(ElementRefusal::UnknownShape),
-        }
+        *self = shaped(Shape::try_from(i)?);
+        Ok(())
     }
 }
 

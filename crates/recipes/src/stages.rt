@@ -1,11 +1,11 @@
 //! The stages of a recipe.
 
-ghost use Rattle.recipes.specs.Recipes.{staged, stages_of, stages_of_step, Finished, places_within, amounts_within};
+ghost use Rattle.recipes.specs.Placed.{placed};
+ghost use Rattle.recipes.specs.Recipes.{staged, stages_of, stages_of_step, operations_by, Finished, places_within, amounts_within};
 ghost use Rattle.std.specs.Prelude.{◌≡◌, ◌<◌, ◌≤◌, [], ◌∷◌, ◌++◌, length};
 
 use crate::draft::{Draft, Letter, Step};
 use crate::element::Element;
-use crate::places::Place;
 use crate::recipe::{Operation, Recipe, Stage};
 use crate::refusals::DraftRefusal;
 
@@ -17,7 +17,7 @@ impl Draft {
         if (self.count as u64) < self.declared {
             return Err(DraftRefusal::TooFew);
         }
-        Ok(recipe_of(&self.steps[0..self.count]))
+        Ok(Recipe::of(&self.steps[..self.count]))
     }
 }
 
@@ -26,14 +26,25 @@ impl Recipe {
     pub fn empty() -> Recipe
         ensures stages { staged result ≡ [] }
     {
-        let blank = Stage {
-            operation: Operation::Erosion,
-            element: Element::new(),
-        };
         Recipe {
-            stages: [blank; 8],
+            stages: [Stage {
+                operation: Operation::Erosion,
+                element: Element::new(),
+            }; 8],
             count: 0,
         }
+    }
+
+    /// The recipe of some steps.
+    fn of(steps: &[Step]) -> Recipe
+        requires { length steps.now ≤ 4 }
+        ensures stages { staged result ≡ stages_of steps.now }
+    {
+        let mut recipe = Recipe::empty();
+        for step in steps {
+            recipe.append(step);
+        }
+        recipe
     }
 
     /// The stages in order.
@@ -41,7 +52,7 @@ impl Recipe {
         ensures stages { result.now ≡ staged self.now }
         ensures few { length result.now ≤ 8 }
     {
-        &self.stages[0..self.count]
+        &self.stages[..self.count]
     }
 
     /// The number of stages.
@@ -55,7 +66,9 @@ impl Recipe {
     pub fn amounts_within(&self, span: u32) -> bool
         ensures { result ≡ amounts_within span (staged self.now) }
     {
-        stages_within(self.stages(), span)
+        self.stages()
+            .iter()
+            .all(|stage| stage.element.amounts_within(span))
     }
 
     /// Adds the stages of a step.
@@ -63,65 +76,45 @@ impl Recipe {
         requires { length (staged self.old) ≤ 6 }
         ensures stages { staged self.new ≡ staged self.old ++ stages_of_step step.now }
     {
-        match step.letter {
-            Letter::Erosion => self.push(Operation::Erosion, &step.element),
-            Letter::Dilation => self.push(Operation::Dilation, &step.element),
-            Letter::Opening => {
-                self.push(Operation::Erosion, &step.element);
-                self.push(Operation::Dilation, &step.element);
-            }
-            Letter::Closing => {
-                self.push(Operation::Dilation, &step.element);
-                self.push(Operation::Erosion, &step.element);
-            }
+        for operation in step.letter.operations() {
+            self.push(Stage {
+                operation: *operation,
+                element: step.element,
+            });
         }
     }
 
     /// Adds a stage.
-    fn push(&mut self, operation: Operation, element: &Element)
+    fn push(&mut self, stage: Stage)
         requires { length (staged self.old) < 8 }
-        ensures stages { staged self.new ≡ staged self.old ++ record { operation = operation; element = element.now } ∷ [] }
+        ensures stages { staged self.new ≡ staged self.old ++ stage ∷ [] }
     {
-        self.stages[self.count] = Stage {
-            operation,
-            element: *element,
-        };
+        self.stages[self.count] = stage;
         self.count += 1;
     }
 }
 
-/// The recipe of some steps.
-fn recipe_of(steps: &[Step]) -> Recipe
-    requires { length steps.now ≤ 4 }
-    ensures stages { staged result ≡ stages_of steps.now }
-{
-    let mut recipe = Recipe::empty();
-    for step in steps {
-        recipe.append(step);
-    }
-    recipe
-}
-
-/// Whether every amount of these stages is from −span to span.
-fn stages_within(stages: &[Stage], span: u32) -> bool
-    ensures { result ≡ amounts_within span stages.now }
-{
-    for stage in stages {
-        if !places_within(stage.element.places(), span) {
-            return false;
+impl Letter {
+    /// What a step of the letter does, in order.
+    fn operations(self) -> &'static [Operation]
+        ensures { result.now ≡ operations_by self }
+    {
+        match self {
+            Letter::Erosion => &[Operation::Erosion],
+            Letter::Dilation => &[Operation::Dilation],
+            Letter::Opening => &[Operation::Erosion, Operation::Dilation],
+            Letter::Closing => &[Operation::Dilation, Operation::Erosion],
         }
     }
-    true
 }
 
-/// Whether every amount of these places is.
-fn places_within(places: &[Place], span: u32) -> bool
-    ensures { result ≡ places_within span places.now }
-{
-    for place in places {
-        if place.amount.unsigned_abs() > span {
-            return false;
-        }
+impl Element {
+    /// Whether every amount of the places is from −span to span.
+    fn amounts_within(&self, span: u32) -> bool
+        ensures { result ≡ places_within span (placed self.now) }
+    {
+        self.places()
+            .iter()
+            .all(|place| place.amount.unsigned_abs() <= span)
     }
-    true
 }

@@ -14,12 +14,11 @@ impl Draft {
         ensures steps { steps_of result ≡ [] }
         ensures declared { result.declared ≡ n }
     {
-        let blank = Step {
-            letter: Letter::Erosion,
-            element: Element::new(),
-        };
         Draft {
-            steps: [blank; 4],
+            steps: [Step {
+                letter: Letter::Erosion,
+                element: Element::new(),
+            }; 4],
             count: 0,
             declared: n,
         }

@@ -19,8 +19,8 @@ loop-n-preserved c =
 
 pub invariant_of-result : goal.invariant_of-result
 invariant_of-result c =
-    let all = c.loop-n.invariant.2 ∙ met_all c.args.shape c.loop-n.n c.loop-n-test.false in
-    record { long = c.loop-n.invariant.0; within = omega arith; sound = ap (λ ps. lawful ps 1) all ∙ shape_lawful c.args.shape }
+    let list_all = c.loop-n.invariant.2 ∙ met_all c.args.shape c.loop-n.n c.loop-n-test.false in
+    record { long = c.loop-n.invariant.0; within = omega arith; sound = ap (λ ps. lawful ps 1) list_all ∙ shape_lawful c.args.shape }
 
 pub returns : goal.returns
 returns c = record { places = c.loop-n.invariant.2 ∙ met_all c.args.shape c.loop-n.n c.loop-n-test.false; order = refl }

@@ -1,8 +1,7 @@
 use Rattle.std.proofs.Common.{refl, rules}
 use Rattle.recipes.specs.Lawful.{lawful, apart}
-use Rattle.recipes.specs.Places.{any, all}
 use Rattle.recipes.proofs.element.Element.new.Goals as goal
 
 pub invariant_of-result : goal.invariant_of-result
-unfolding lawful apart any all
+unfolding lawful apart
 invariant_of-result c = record { long = refl; within = search rules; sound = refl }
