@@ -3,7 +3,6 @@ use Rattle.std.proofs.Common.{ℕ, refl}
 use Rattle.areas.specs.Areas.{dropped, last_area, lowest_from, spread, stale_rows}
 use Rattle.calls.specs.Outcomes.{laid, redone_rows, task_from}
 use Rattle.calls.specs.Residue.{differences}
-use Rattle.recipes.specs.Places.{all}
 use Rattle.recipes.specs.Reaches.{reach}
 use Rattle.recipes.specs.declared.draft.Draft.{Draft}
 use Rattle.recipes.specs.declared.draft.Letter.TheVariants as letter
@@ -15,7 +14,7 @@ use Rattle.cases.specs.Samples.{ECross, OCross, DRaising, raising_places}
 use Rattle.cases.proofs.OneStep.{every_cross, every_one_step}
 
 pub one_stage_examples : (d : Draft) → ECross d → (w : ℕ → ℕ) (t : ℕ) → OneStageExamples d w t
-unfolding all below cleaned dropped laid last_area line lowest_from ranked reach redone_rows spread stale_rows task_from window
+unfolding below cleaned dropped laid last_area line lowest_from ranked reach redone_rows spread stale_rows task_from window
 one_stage_examples = every_cross 69 letter.Erosion (λ d. (w : ℕ → ℕ) (t : ℕ) → OneStageExamples d w t) refl (λ a b w t. record {
   opens = refl;
   installs = refl;

@@ -5,7 +5,6 @@ use Rattle.std.proofs.lemmas.Bool.{le-ltb, lt-ltb}
 use Rattle.areas.specs.Areas.{last_area, stale_rows}
 use Rattle.calls.specs.Outcomes.{done_unless, drafted}
 use Rattle.recipes.specs.Drafts.{steps_of}
-use Rattle.recipes.specs.Places.{all}
 use Rattle.recipes.specs.Recipes.{Finished, staged}
 use Rattle.recipes.specs.Refusals.{draft_number}
 use Rattle.recipes.specs.declared.draft.Draft.{Draft}
@@ -50,7 +49,7 @@ empty_finish d h e (Err Full) f = f
 empty_finish d h e (Err TooFew) f = omega (arith, h, f)
 
 empty : (d : Draft) → d.declared ≡ 0 → NoSteps d
-unfolding all last_area made stale_rows
+unfolding last_area made stale_rows
 empty = every_empty NoSteps (λ xs l i w. record {
   finish = empty_finish (record { steps = xs; count = 0; declared = 0; long = l; few = i; within = w }) refl refl;
   stages = refl;

@@ -4,7 +4,7 @@ use Rattle.std.proofs.lemmas.List.{length-take-le}
 use Rattle.recipes.specs.Drafts.{letter_of, steps_of}
 use Rattle.recipes.specs.Lawful.{apart, lawful}
 use Rattle.recipes.specs.Placed.{placed}
-use Rattle.recipes.specs.Places.{all, any, origin}
+use Rattle.recipes.specs.Places.{origin}
 use Rattle.recipes.specs.Shapes.{grid, standard_places}
 use Rattle.recipes.specs.declared.draft.Draft.{Draft}
 use Rattle.recipes.specs.declared.draft.Letter.{Letter}
@@ -88,13 +88,13 @@ one_step_there c l ps k e a p =
     )
 
 cross_there : (c : ℕ) (l : Letter) → letter_of c ≡ Some l → (d : Draft) × IsOneStep c (standard_places Cross) 2 d
-unfolding lawful apart any all
+unfolding lawful apart
 cross_there c l e =
     subst (λ ps. (d : Draft) × IsOneStep c ps 2 d) (sym cross_is)
     (one_step_there c l cross_places 2 e (record { rest = replicate 44 origin; long = refl; within = lit≤ tt; sound = refl }) refl)
 
 raising_there : (d : Draft) × DRaising d
-unfolding lawful apart any all
+unfolding lawful apart
 raising_there = one_step_there 68 letter.Dilation raising_places 1 refl (record { rest = replicate 48 origin; long = refl; within = lit≤ tt; sound = refl }) refl
 
 pub drafts_there : DraftsThere

@@ -10,7 +10,6 @@ use Rattle.recipes.specs.declared.recipe.Operation.{Operation}
 use Rattle.recipes.specs.declared.recipe.Operation.TheVariants.{Erosion, Dilation}
 use Rattle.recipes.specs.declared.recipe.Stage.{Stage}
 use Rattle.recipes.specs.Placed.{placed}
-use Rattle.recipes.specs.Places.{all}
 use Rattle.recipes.specs.Recipes.{places_within, amounts_within}
 use Rattle.selectors.specs.Bag.{below}
 use Rattle.stages.specs.Stages.{Picture, target, rank_of, inside, read, bag, rank, cleaned, made, shifted}
@@ -24,7 +23,6 @@ use Rattle.filters.proofs.Windows.{inside_on, under, weighs, below_bag, total_is
 
 -- the amounts of places within a span
 pub amounts : (span : ℕ) (ps : List Place) → places_within span ps ≡ true → AllByRecursion (λ p. nat_abs p.amount ≤ span) ps
-unfolding all
 amounts span [] h = tt
 amounts span (p ∷ ps) h =
     let two = and_parts (leb (nat_abs p.amount) span) (places_within span ps) h in
@@ -85,7 +83,7 @@ module _ {T R : Type 0} (K : Kind T R) (law : Laws K) (size : Size) (t : T) wher
       ranks = ap (rank_of s.operation s.element.order) (total_is marks size s g x y marks_lawful ∙ sym (total_is K size s f x y law))
 
   made_cut : (ss : List Stage) → amounts_within 0 ss ≡ true → (f : Picture T) (g : Picture Mark) → Cut f g → Cut (made K size ss f) (made marks size ss g)
-  unfolding made all
+  unfolding made
   made_cut [] zeros f g same = same
   made_cut (s ∷ ss) zeros f g same =
       let two = and_parts (places_within 0 (placed s.element)) (amounts_within 0 ss) zeros in

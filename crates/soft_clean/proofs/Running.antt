@@ -8,7 +8,6 @@ use Rattle.pgm.proofs.Readings.{one_reading}
 use Rattle.planes.specs.Sizes.{Limits}
 use Rattle.recipes.specs.Drafts.{steps_of}
 use Rattle.recipes.specs.Placed.{placed}
-use Rattle.recipes.specs.Places.{all}
 use Rattle.recipes.specs.Recipes.{eroding, stages_of, amounts_within, places_within}
 use Rattle.recipes.specs.Shapes.{grid, standard_places}
 use Rattle.recipes.specs.declared.draft.Draft.{Draft}
@@ -90,7 +89,7 @@ patch_fits w h n p q e =
 
 -- an erosion by the cross fits a card of one stage
 amounts_fit : (e : Element) → placed e ≡ standard_places Cross → amounts_within 255 (eroding e ∷ []) ≡ true
-unfolding standard_places grid all
+unfolding standard_places grid
 amounts_fit e p = ap (λ ps. places_within 255 ps && true) p
 
 refusal_of : List Step → ℕ → Option ℕ
