@@ -4,6 +4,7 @@ use mathlib.Core.Path.{fun_ext}
 use Rattle.std.proofs.lemmas.Bool.{cases_eq, cases_lt}
 use Rattle.std.proofs.lemmas.Bool.Decides.{nat_tests}
 use Rattle.std.proofs.lemmas.List.{get_or-set_same, get_or-set_other, get_or-take, length-take-le}
+use Rattle.std.specs.List.{CopiedTo, SameBelow}
 use Rattle.selectors.specs.declared.entries.Entry.{Entry}
 use Rattle.selectors.specs.Bag.{below, added}
 use Rattle.selectors.specs.Entries.{blank, share, weigh, Weighty, Inserted}
@@ -23,10 +24,14 @@ weigh_some es n i c l e =
     let s : share (get_or es i blank) c ≡ (get_or es i blank).weight = grind (arith, nat_tests) in
     omega (arith, s, below_at (λ k. share (get_or es k blank) c) i n l)
 
+-- an entry with a more on it
+abbrev pub raised : Entry → ℕ → Entry
+raised e a = record { code = e.code; weight = e.weight + a }
+
 -- a more on the entry i
-pub weigh_more : (es : List Entry) (n i c a d : ℕ) → i < n → i < length es → (get_or es i blank).code ≡ c → weigh (set es i (record { code = c; weight = (get_or es i blank).weight + a })) n d ≡ added (weigh es n) c a d
+pub weigh_more : (es : List Entry) (n i c a d : ℕ) → i < n → i < length es → (get_or es i blank).code ≡ c → weigh (set es i (raised (get_or es i blank) a)) n d ≡ added (weigh es n) c a d
 weigh_more es n i c a d l w e =
-    let more : Entry = record { code = c; weight = (get_or es i blank).weight + a } in
+    let more : Entry = raised (get_or es i blank) a in
     let f : ℕ → ℕ = λ k. share (get_or es k blank) d in
     let b : ℕ = cond (eqb c d) a 0 in
     let at : (k : ℕ) → share (get_or (set es i more) k blank) d ≡ added f i b k = λ k. ⊎_elim
@@ -45,42 +50,26 @@ weigh_more es n i c a d l w e =
     sum ∙ plus ∙ fin
 
 -- one entry more
-pub weigh_inserted : (es fs : List Entry) (n at c a d : ℕ) → at ≤ n → Inserted es fs n at (record { code = c; weight = a }) → weigh fs (n + 1) d ≡ added (weigh es n) c a d
-weigh_inserted es fs n at c a d le ins =
+pub weigh_inserted : (es fs : List Entry) (n at : ℕ) (e : Entry) (d : ℕ) → at ≤ n → Inserted es fs n at e → weigh fs (n + 1) d ≡ added (weigh es n) e.code e.weight d
+weigh_inserted es fs n at e d le ins =
+    let c = e.code in
+    let a = e.weight in
     let sum : below (λ k. share (get_or fs k blank) d) (suc n) ≡ weigh es n d + cond (eqb c d) a 0 =
     below_inserted (λ k. share (get_or es k blank) d) (λ k. share (get_or fs k blank) d) n at (cond (eqb c d) a 0) le
     (λ i l. ap (λ x. share x d) (ins.1 i l)) (ap (λ x. share x d) ins.2) (λ i l m. ap (λ x. share x d) (ins.3 i l m)) in
     let fin : weigh es n d + cond (eqb c d) a 0 ≡ added (weigh es n) c a d = grind (arith, nat_tests) in
     ap (below (λ k. share (get_or fs k blank) d)) (add-one n) ∙ sum ∙ fin
 
-pub weighty_inserted : (es fs : List Entry) (n at c a : ℕ) → at ≤ n → 0 < a → Inserted es fs n at (record { code = c; weight = a }) → Weighty es n → Weighty fs (n + 1)
-weighty_inserted es fs n at c a le pos ins w k l = ⊎_elim
-    (λ (p : k < at). let e : (get_or fs k blank).weight ≡ (get_or es k blank).weight = ap (λ x. x.weight) (ins.1 k p) in omega (arith, e, w k (omega arith)))
-    (λ (p : at ≤ k). ⊎_elim
-    (λ (q : k ≡ at). let e : (get_or fs k blank).weight ≡ a = ap (λ m. (get_or fs m blank).weight) q ∙ ap (λ x. x.weight) ins.2 in omega (arith, e))
-    (λ (q : k ≡ at → ⊥).
-    let s : k ≡ suc (k - 1) = omega arith in
-    let e : (get_or fs k blank).weight ≡ (get_or es (k - 1) blank).weight = ap (λ m. (get_or fs m blank).weight) s ∙ ap (λ x. x.weight) (ins.3 (k - 1) (omega arith) (omega arith)) in
-    omega (arith, e, w (k - 1) (omega arith)))
-    (cases_eq k at))
-    (cases_lt k at)
-
--- at the end, that is a write
-pub inserted_last : (es : List Entry) (n : ℕ) (e : Entry) → n < length es → Inserted es (set es n e) n n e
-inserted_last es n e w = (
-  length-set es n e,
-  λ i l. get_or-set_other es n i e blank (λ q. omega arith),
-  get_or-set_same es n e blank w,
-  λ i l m. absurd (omega arith),
+-- the entries from at up to the n-th are copied one place on, and e is written at at
+pub inserted_copied : (es fs : List Entry) (n at : ℕ) (e : Entry) → at ≤ n → n < length es → length fs ≡ length es → CopiedTo es fs at (at + 1) (n - at) → SameBelow es fs (at + 1) → Inserted es (set fs at e) n at e
+inserted_copied es fs n at e le lt len copied same = (
+  length-set fs at e ∙ len,
+  λ i l. get_or-set_other fs at i e blank (λ q. omega arith) ∙ same i blank (omega arith),
+  get_or-set_same fs at e blank (omega (arith, len)),
+  λ i l m. (
+      let k : at + (suc i - (at + 1)) ≡ i = omega arith in
+      get_or-set_other fs at (suc i) e blank (λ q. omega arith) ∙ copied (suc i) blank (omega arith) (omega arith) ∙ ap (λ j. get_or es j blank) k),
 )
-
-pub weighty_more : (es : List Entry) (n i c a : ℕ) → i < length es → 0 < a → Weighty es n → Weighty (set es i (record { code = c; weight = (get_or es i blank).weight + a })) n
-weighty_more es n i c a l pos w k m =
-    let more : Entry = record { code = c; weight = (get_or es i blank).weight + a } in
-    ⊎_elim
-    (λ (q : k ≡ i). let e : (get_or (set es i more) k blank).weight ≡ (get_or es i blank).weight + a = ap (λ m. (get_or (set es i more) m blank).weight) q ∙ ap (λ x. x.weight) (get_or-set_same es i more blank l) in omega (arith, e))
-    (λ (q : k ≡ i → ⊥). let e : (get_or (set es i more) k blank).weight ≡ (get_or es k blank).weight = ap (λ x. x.weight) (get_or-set_other es i k more blank q) in omega (arith, e, w k m))
-    (cases_eq k i)
 
 -- what one entry adds to the codes below m
 pub below_share : (e : Entry) (m : ℕ) → below (share e) m ≡ cond (ltb e.code m) e.weight 0
@@ -105,16 +94,9 @@ below_weigh es (suc n) m =
     let split : below (weigh es (suc n)) m ≡ below (λ c. weigh es n c + share e c) m = below_same (weigh es (suc n)) (λ c. weigh es n c + share e c) m (λ c _. below_suc (λ i. share (get_or es i blank) c) n) in
     omega (arith, split, below_plus (weigh es n) (share e) m, below_weigh es n m, below_share e m, below_suc f n)
 
--- `&es[0..n]` as the checker reads it
-pub front_is : (es : List Entry) (n : ℕ) → take (n - 0) es ≡ take n es
-front_is es n = let e : n - 0 ≡ n = omega arith in ap (λ k. take k es) e
+-- the first n entries by themselves
+pub front_at : (es : List Entry) (n i : ℕ) → i < n → get_or (take n es) i blank ≡ get_or es i blank
+front_at es n i l = get_or-take n es i blank l
 
-pub front_length : (es : List Entry) (n : ℕ) → n ≤ length es → length (take (n - 0) es) ≡ n
-front_length es n h = ap length (front_is es n) ∙ length-take-le n es h
-
-pub front_at : (es : List Entry) (n i : ℕ) → i < n → get_or (take (n - 0) es) i blank ≡ get_or es i blank
-front_at es n i l = ap (λ fs. get_or fs i blank) (front_is es n) ∙ get_or-take n es i blank l
-
--- the bag of the first n entries
-pub front_bag : (es : List Entry) (n : ℕ) → n ≤ length es → weigh (take (n - 0) es) (length (take (n - 0) es)) ≡ weigh es n
-front_bag es n h = ap (weigh (take (n - 0) es)) (front_length es n h) ∙ fun_ext (λ c. below_same (λ i. share (get_or (take (n - 0) es) i blank) c) (λ i. share (get_or es i blank) c) n (λ i l. ap (λ e. share e c) (front_at es n i l)))
+pub front_bag : (es : List Entry) (n : ℕ) → n ≤ length es → weigh (take n es) (length (take n es)) ≡ weigh es n
+front_bag es n h = ap (weigh (take n es)) (length-take-le n es h) ∙ fun_ext (λ c. below_same (λ i. share (get_or (take n es) i blank) c) (λ i. share (get_or es i blank) c) n (λ i l. ap (λ e. share e c) (front_at es n i l)))

@@ -1,5 +1,5 @@
 -- The bag that a list of entries stands for. Assumes nothing.
-use Rattle.std.specs.Prelude.{◌≡◌, ℕ, suc, ◌/◌, ◌^◌, ◌<◌, ◌≤◌, cond, List, length, get_or, Some, None, Ok, Err, Option, Result, ◌==◌, ◌≢◌, slice_index_or}
+use Rattle.std.specs.Prelude.{◌≡◌, ℕ, suc, ◌/◌, ◌^◌, ◌<◌, ◌≤◌, cond, List, length, get_or, Ok, Err, Result, ◌==◌, ◌≢◌, slice_index_or}
 use Rattle.selectors.specs.declared.entries.Entry.{Entry}
 use Rattle.selectors.specs.Bag.{below}
 
@@ -31,10 +31,10 @@ Rising es n = (i j : ℕ) → i < j → j < n → (get_or es i blank).code < (ge
 abbrev pub under : Entry → ℕ → ℕ → ℕ
 under e k p = cond (e.code / 2 ^ k == p) e.weight 0
 
--- the place of an entry with the code c, or that there is none
-abbrev pub Place : List Entry → ℕ → Option ℕ → Type 0
-Place es c None = (i : ℕ) → i < length es → (get_or es i blank).code ≢ c
-Place es c (Some i) = (i < length es) × ((get_or es i blank).code ≡ c)
+-- the place of an entry with the code c, or a place where one may come, since there is none
+abbrev pub Found : List Entry → ℕ → Result ℕ ℕ → Type 0
+Found es c (Ok i) = (i < length es) × ((get_or es i blank).code ≡ c)
+Found es c (Err at) = (at ≤ length es) × ((i : ℕ) → i < length es → (get_or es i blank).code ≢ c)
 
 -- the place of an entry with the code c, or the place between smaller and larger codes where it belongs
 abbrev pub Seat : List Entry → ℕ → Result ℕ ℕ → Type 0
@@ -43,6 +43,10 @@ Seat es c (Err at) =
     (at ≤ length es)
     × ((i : ℕ) → i < at → (get_or es i blank).code < c)
     × ((i : ℕ) → at ≤ i → i < length es → c < (get_or es i blank).code)
+
+-- an entry that a put may take: it has weight, and its code is below the range
+abbrev pub Fit : Entry → Type 0
+Fit e = (0 < e.weight) × (e.code < 33554432)
 
 -- fs is es with e at the place at, and the entries from there up to the n-th one place on
 abbrev pub Inserted : List Entry → List Entry → ℕ → ℕ → Entry → Type 0

@@ -1,35 +1,27 @@
 //! The gate: entries in any order, and a rank found bit by bit.
-ghost use Rattle.std.specs.Prelude.{◌≡◌, ℕ, ◌<◌, ◌≤◌, length};
+ghost use Rattle.std.specs.Prelude.{◌≡◌, ℕ, ◌<◌, ◌≤◌};
 ghost use Rattle.selectors.specs.Bag.{below, Ranked};
-ghost use Rattle.selectors.specs.Entries.{Place, Weighty, bag, under, weigh};
-ghost use Rattle.selectors.specs.Tally.{Tally};
+ghost use Rattle.selectors.specs.Entries.{bag, under, weigh};
 ghost use Rattle.std.proofs.Common.{rules};
 
-use crate::entries::Entry;
-use crate::limits::{MOST_CODES, MOST_WEIGHT, WIDE_RANGE};
+use crate::entries::{Entries, Entry};
+use crate::limits::WIDE_RANGE;
 use crate::refusals::{PutRefusal, SelectRefusal};
 use crate::selector::Selector;
 
 /// A selector over the codes below 33,554,432 that keeps the codes that have weight, in the order in which they came.
 #[derive(Clone, Copy)]
 pub struct Gate {
-    entries: [Entry; MOST_CODES],
-    count: usize,
-    sum: u32,
-    ghost size: { length entries ≡ 64 },
-    ghost weighty: { Weighty entries count },
-    ghost tally: { Tally (weigh entries count) 33554432 count sum },
+    entries: Entries,
 }
 
 impl Gate {
     /// A gate in which every weight is 0.
     pub fn new() -> Gate
-        ensures weights { (c : ℕ) → weigh result.entries result.count c ≡ 0 }
+        ensures weights { (c : ℕ) → weigh result.entries.places result.entries.count c ≡ 0 }
     {
         Gate {
-            entries: [Entry::BLANK; MOST_CODES],
-            count: 0,
-            sum: 0,
+            entries: Entries::new(),
         }
     }
 }
@@ -37,7 +29,7 @@ impl Gate {
 impl Selector for Gate {
     ghost range = { λ _. 33554432 };
 
-    ghost weight = { λ s c. weigh s.entries s.count c };
+    ghost weight = { λ s c. weigh s.entries.places s.entries.count c };
 
     ghost ordered = { λ _. Unit {0} };
 
@@ -50,63 +42,28 @@ impl Selector for Gate {
     }
 
     fn empty(&mut self) {
-        self.count = 0;
-        self.sum = 0;
+        self.entries.clear();
     }
 
     fn put(&mut self, code: u32, amount: u32) -> Result<(), PutRefusal> {
-        if amount == 0 || code >= WIDE_RANGE {
-            return Err(PutRefusal::Unfit);
+        let entry = Entry::checked(code, amount)?;
+        let held = self.entries.as_slice();
+        match held.iter().position(|other| other.code == code) {
+            Some(at) => self.entries.raise(at, entry),
+            None => self.entries.insert(self.entries.len(), entry),
         }
-        match find(&self.entries[0..self.count], code) {
-            Some(at) => {
-                if amount > MOST_WEIGHT - self.sum {
-                    return Err(PutRefusal::Heavy);
-                }
-                let weight = self.entries[at].weight + amount;
-                self.entries[at] = Entry { code, weight };
-                self.sum += amount;
-            }
-            None => {
-                if self.count == MOST_CODES {
-                    return Err(PutRefusal::Full);
-                }
-                if amount > MOST_WEIGHT - self.sum {
-                    return Err(PutRefusal::Heavy);
-                }
-                self.entries[self.count] = Entry {
-                    code,
-                    weight: amount,
-                };
-                self.count += 1;
-                self.sum += amount;
-            }
-        }
-        Ok(())
     }
 
     fn total(&self) -> u32 {
-        self.sum
+        self.entries.total()
     }
 
     fn select(&self, rank: u32) -> Result<u32, SelectRefusal> {
-        if rank == 0 || rank > self.sum {
+        if rank == 0 || rank > self.entries.total() {
             return Err(SelectRefusal::Unranked);
         }
-        Ok(narrow(&self.entries[0..self.count], rank))
+        Ok(narrow(self.entries.as_slice(), rank))
     }
-}
-
-/// The place of the entry with this code.
-fn find(entries: &[Entry], code: u32) -> Option<usize>
-    ensures { Place entries.now code result }
-{
-    for (i, entry) in entries.iter().enumerate() {
-        if entry.code == code {
-            return Some(i);
-        }
-    }
-    None
 }
 
 /// The code at this rank, bit by bit from the highest: `low` has the bits found with a 0 after them, and `left` is the rank among the codes that begin with the bits found.
@@ -118,6 +75,7 @@ fn narrow(entries: &[Entry], rank: u32) -> u32
     let mut left = rank;
     for bit in (0..25u32).rev() {
         let mut lower = 0;
+        // A plain loop over all entries, with no early stop: that is the gate's form.
         for entry in entries {
             lower += weight_under(*entry, bit, low);
         }

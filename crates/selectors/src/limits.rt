@@ -1,4 +1,8 @@
 //! The limits of every selector, and the range of the gate and the ladder.
+ghost use Rattle.std.specs.Prelude.{◌≡◌, ◌+◌, ◌<◌, ◌≤◌, MatchResult};
+ghost use Rattle.selectors.specs.declared.refusals.PutRefusal.TheVariants.{Heavy};
+
+use crate::refusals::PutRefusal;
 
 /// At most so many codes have weight.
 pub const MOST_CODES: usize = 64;
@@ -8,3 +12,14 @@ pub const MOST_WEIGHT: u32 = 65_535;
 
 /// The codes of the gate and the ladder are below this: they have 25 bits.
 pub const WIDE_RANGE: u32 = 33_554_432;
+
+/// The total with this amount more.
+pub fn heavier(sum: u32, amount: u32) -> Result<u32, PutRefusal>
+    requires { sum ≤ 65535 }
+    ensures { MatchResult result (λ t. (t ≡ sum + amount) × (t ≤ 65535)) (λ e. (e ≡ Heavy) × (65535 < sum + amount)) }
+{
+    if amount > MOST_WEIGHT - sum {
+        return Err(PutRefusal::Heavy);
+    }
+    Ok(sum + amount)
+}

@@ -1,7 +1,7 @@
 use Rattle.std.proofs.Common.{refl, arith}
 use Rattle.selectors.proofs.Tallies.{tally_none}
 use Rattle.selectors.proofs.Weighing.{weigh_zero}
-use Rattle.selectors.proofs.gate.GateSelector.empty.Goals as goal
+use Rattle.selectors.proofs.entries.Entries.clear.Goals as goal
 
 pub invariant_of-self : goal.invariant_of-self
 invariant_of-self c = record {
@@ -11,4 +11,4 @@ invariant_of-self c = record {
 }
 
 pub returns : goal.returns
-returns c = record { weights = weigh_zero _; range_kept = refl; in_order = tt }
+returns c = record { none = refl; weights = weigh_zero _ }

@@ -2,7 +2,7 @@ use Rattle.std.proofs.Common.{replicate, refl, arith}
 use Rattle.selectors.specs.Entries.{blank, weigh}
 use Rattle.selectors.proofs.Tallies.{tally_none}
 use Rattle.selectors.proofs.Weighing.{weigh_zero}
-use Rattle.selectors.proofs.gate.Gate.new.Goals as goal
+use Rattle.selectors.proofs.entries.Entries.new.Goals as goal
 
 pub invariant_of-result : goal.invariant_of-result
 invariant_of-result c = record {
@@ -12,4 +12,4 @@ invariant_of-result c = record {
 }
 
 pub returns : goal.returns
-returns c = record { weights = weigh_zero (replicate 64 blank) }
+returns c = record { none = refl; weights = weigh_zero (replicate 64 blank) }
