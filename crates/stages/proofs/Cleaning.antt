@@ -1,5 +1,5 @@
 -- What a selector that holds a window gives is what the stage makes of the pixel.
-use Rattle.std.proofs.Common.{◌≡◌, ℕ, ◌+◌, ◌<◌, ◌≤◌, true, cond, length, take, ℤ, pos, negsuc, refl, ap, ◌∙◌, subst, arith}
+use Rattle.std.proofs.Common.{◌≡◌, ℕ, ◌+◌, ◌<◌, ◌≤◌, true, cond, length, take, ℤ, pos, negsuc, is_ok, Ok, Result, refl, ap, ◌∙◌, subst, arith}
 use mathlib.Core.Path.{fun_ext}
 use Rattle.std.proofs.lemmas.List.{length-take}
 use Rattle.std.proofs.lemmas.Bool.{and_parts, lt-ltb}
@@ -12,11 +12,13 @@ use Rattle.recipes.specs.Places.{core, same, stands_at}
 use Rattle.recipes.proofs.Arrays.{length_placed}
 use Rattle.recipes.proofs.Elements.{centre, order_positive}
 use Rattle.selectors.specs.Bag.{below, held, Ranked}
+use Rattle.selectors.specs.Calls.{Selected}
+use Rattle.selectors.specs.declared.refusals.SelectRefusal.{SelectRefusal}
 use Rattle.selectors.proofs.Sums.{below_at, below_cut, below_same, held_same}
 use Rattle.selectors.proofs.Ranks.{ranked_one}
 use Rattle.tones.specs.Kind.{Kind, Laws}
 use Rattle.stages.specs.Stages.{Picture, target, on_card, weight, inside, code_at, adds, window, bag, total, rank, cleaned, rank_of, ranked}
-use Rattle.stages.proofs.Ranks.{ranked_is, rank_positive, rank_within}
+use Rattle.stages.proofs.Ranks.{ranked_is, rank_positive, rank_within, selected_ok}
 use Rattle.stages.proofs.Windows.{adds_own, window_has, window_most, window_few, window_within, weights_most}
 
 -- whole numbers found the same are the same
@@ -90,3 +92,10 @@ module _ {T R : Type 0} (K : Kind T R) (law : Laws K) (size : Size) (s : Stage) 
           let b = bag K size s f x y in
           let mine : Ranked b (rank K size s f x y) c = subst (λ v. Ranked v (rank K size s f x y) c) (fun_ext is) (subst (λ q. Ranked w q c) rank_is h) in
           ap K.tone (ranked_one b (rank K size s f x y) c (ranked b (rank K size s f x y) K.count) mine (ranked_is b (rank K size s f x y) K.count rank_some rank_most).0)
+
+      -- so it does not refuse the rank, and answers the code of the pixel's tone
+      pub rank_selected : (a : Result ℕ SelectRefusal) → Selected w n r a → is_ok a ≡ true
+      rank_selected a h = selected_ok w n r a rank_fits.0 rank_fits.1 h
+
+      pub selected_cleaned : (a : Result ℕ SelectRefusal) (c : ℕ) → Selected w n r a → a ≡ Ok c → K.tone c ≡ cleaned K size s f x y
+      selected_cleaned a c h e = ranked_cleaned c (subst (Selected w n r) e h).2

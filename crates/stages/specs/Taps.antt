@@ -34,6 +34,10 @@ module _ {T R : Type 0} (K : Kind T R) (size : Size) (f : Picture T) (x y : ℕ)
   abbrev pub tap_code : Tap → ℕ
   tap_code t = K.code (K.lowered (f (unsigned_abs (pos x +ℤ t.dx)) (unsigned_abs (pos y +ℤ t.dy))) t.amount)
 
+  -- that code, where the tap falls on the card
+  abbrev pub tap_reads : Tap → Option ℕ
+  tap_reads t = cond (on_card size.width (pos x +ℤ t.dx) && on_card size.height (pos y +ℤ t.dy)) (Some (tap_code t)) None
+
   -- what a tap adds to the weight of the code c
   abbrev pub tap_adds : Tap → ℕ → ℕ
   tap_adds t c = cond ((on_card size.width (pos x +ℤ t.dx) && on_card size.height (pos y +ℤ t.dy)) && tap_code t == c) t.weight 0

@@ -2,9 +2,10 @@
 
 #![tactic(auto)]
 
+pub mod pass;
 pub mod pixels;
-mod reading;
 pub mod rows;
+pub mod site;
 pub mod taps;
 #[cfg(test)]
 mod tests;

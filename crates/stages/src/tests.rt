@@ -2,8 +2,9 @@
 
 ghost use Rattle.std.specs.Prelude.{◌≤◌};
 
-use crate::rows::stage_row;
+use crate::pass::Pass;
 use crate::window::Window;
+use planes::frame::Frame;
 use planes::size::Size;
 use recipes::element::Element;
 use recipes::places::Part;
@@ -17,17 +18,18 @@ fn made<S: Selector>(selector: &mut S, stage: &Stage) -> [u8; 18]
     requires order { S.ordered selector.old }
     requires codes { 256 ≤ S.range selector.old }
 {
-    let size = Size {
+    let frame = Frame::new(Size {
         width: 3,
         height: 3,
-    };
+    });
     let window = Window::of(stage);
     let mut memory = [
         10, 20, 30, 40, 50, 60, 70, 80, 90, 0, 0, 0, 0, 0, 0, 0, 0, 0,
     ];
-    stage_row::<Grey, S>(selector, &window, size, &mut memory, 0, 9, 0, 0, 3);
-    stage_row::<Grey, S>(selector, &window, size, &mut memory, 0, 9, 1, 0, 3);
-    stage_row::<Grey, S>(selector, &window, size, &mut memory, 0, 9, 2, 0, 3);
+    let pass = Pass::new(&window, frame, 0, 9);
+    pass.stage_row::<Grey, S>(selector, &mut memory, 0, 0, 3);
+    pass.stage_row::<Grey, S>(selector, &mut memory, 1, 0, 3);
+    pass.stage_row::<Grey, S>(selector, &mut memory, 2, 0, 3);
     memory
 }
 

@@ -1,6 +1,6 @@
 use Rattle.std.proofs.Common.{◌≡◌, ℕ}
 use Rattle.stages.specs.Rows.{row_made, row_weights}
-use Rattle.stages.proofs.rows.stage_row.Given as goal
+use Rattle.stages.proofs.pass.Pass.stage_row.Given as goal
 
 abbrev pub invariant-loop-x : goal.invariant-loop-x
 invariant-loop-x g l =
@@ -9,5 +9,5 @@ invariant-loop-x g l =
     let m = l.initial.memory in
     s.ordered l.selector
     × (s.range l.selector ≡ s.range l.initial.selector)
-    × (l.memory ≡ row_made k l.size l.window.stage l.from m l.y l.left l.x l.into)
-    × ((c : ℕ) → s.weight l.selector c ≡ row_weights k l.size l.window.stage l.from m l.y l.left l.x (s.weight l.initial.selector) c)
+    × (l.memory ≡ row_made k l.self.frame.size l.self.window.now.stage l.self.from m l.y l.left l.x l.self.into)
+    × ((c : ℕ) → s.weight l.selector c ≡ row_weights k l.self.frame.size l.self.window.now.stage l.self.from m l.y l.left l.x (s.weight l.initial.selector) c)

@@ -2,7 +2,7 @@ use Rattle.std.proofs.Common.{◌≡◌, ℕ, take}
 use Rattle.recipes.specs.Placed.{placed}
 use Rattle.stages.specs.Planes.{picture}
 use Rattle.stages.specs.Stages.{window}
-use Rattle.stages.proofs.pixels.put_taps.Given as goal
+use Rattle.stages.proofs.window.Window.put_taps.Given as goal
 
 abbrev pub invariant-loop-tap : goal.invariant-loop-tap
 invariant-loop-tap g l =
@@ -10,4 +10,4 @@ invariant-loop-tap g l =
     let k = g.T.Tone.kind in
     s.ordered l.selector
     × (s.range l.selector ≡ s.range l.initial.selector)
-    × ((c : ℕ) → s.weight l.selector c ≡ window k l.size l.window.stage (picture k l.size 0 l.plane) l.x l.y (take l.tap-index (placed l.window.stage.element)) c)
+    × ((c : ℕ) → s.weight l.selector c ≡ window k l.site.frame.size l.self.stage (picture k l.site.frame.size 0 l.site.plane.now) l.site.x l.site.y (take l.tap-index (placed l.self.stage.element)) c)

@@ -1,0 +1,66 @@
+//! A pixel of a plane, and what a tap reads there.
+
+ghost use Rattle.std.specs.Prelude.{◌≡◌, ◌<◌, ◌≤◌, length};
+ghost use Rattle.planes.specs.Sizes.{area};
+ghost use Rattle.stages.specs.Planes.{picture};
+ghost use Rattle.stages.specs.Taps.{reached, tap_reads};
+
+use crate::taps::Tap;
+use planes::frame::Frame;
+use tones::Tone;
+
+/// A pixel of a plane: its column and its row, with the plane around it.
+#[derive(Drop)]
+pub struct Site<'a, T: Tone> {
+    frame: Frame,
+    plane: &'a [T::Row],
+    x: usize,
+    y: usize,
+    ghost filled: { length plane.now ≡ area frame.size },
+    ghost column: { x < frame.size.width },
+    ghost row: { y < frame.size.height },
+}
+
+impl<'a, T: Tone> Site<'a, T> {
+    /// The pixel in column x and row y of a plane.
+    pub fn new(frame: Frame, plane: &'a [T::Row], x: usize, y: usize) -> Self
+        requires plane { length plane.now ≡ area frame.size }
+        requires column { x < frame.size.width }
+        requires row { y < frame.size.height }
+        ensures frame { result.frame ≡ frame }
+        ensures plane { result.plane.now ≡ plane.now }
+        ensures place { (result.x ≡ x) × (result.y ≡ y) }
+    {
+        Site { frame, plane, x, y }
+    }
+
+    /// The code that a tap reads, if that lies on the card.
+    pub(crate) fn code_at(&self, tap: &Tap) -> Option<u32>
+        ensures { result ≡ tap_reads T.Tone.kind self.now.frame.size (picture T.Tone.kind self.now.frame.size 0 self.now.plane.now) self.now.x self.now.y tap.now }
+    {
+        let column = reached(self.x, tap.dx, self.frame.size.width)?;
+        let row = reached(self.y, tap.dy, self.frame.size.height)?;
+        let tone = T::of_row(self.plane[self.frame.cell(column, row)]);
+        Some(lowered(tone, tap.amount).code())
+    }
+}
+
+/// The column or row that lies `d` from `x`, of a card that has `n` of them.
+fn reached(x: usize, d: isize, n: usize) -> Option<usize>
+    requires { (x < 1024) × (n ≤ 1024) }
+    ensures { result ≡ reached x d n }
+{
+    let at = x.wrapping_add_signed(d);
+    (at < n).then_some(at)
+}
+
+/// A tone lowered by an amount, which is 0 most of the time.
+fn lowered<T: Tone>(tone: T, amount: i32) -> T
+    ensures { result ≡ T.kind.lowered tone amount }
+{
+    if amount == 0 {
+        tone
+    } else {
+        tone.lowered(amount)
+    }
+}
