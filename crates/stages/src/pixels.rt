@@ -11,6 +11,8 @@ use crate::window::Window;
 use selectors::Selector;
 use tones::Tone;
 
+// That the selector is in order and that the kind's codes are in its range stand in each contract: `ordered` may be any type, and a ghost field takes a fact with one proof at most.
+
 /// Puts what a tap reads, if that lies on the card.
 fn put_tap<T: Tone, S: Selector>(selector: &mut S, tap: &Tap, site: &Site<T>)
     requires order { S.Selector.ordered selector.old }

@@ -1,9 +1,8 @@
 //! A place of an element, turned for its stage.
 
-ghost use Rattle.std.specs.Prelude.{◌≡◌, ◌≤◌, unsigned_abs};
+ghost use Rattle.std.specs.Prelude.{◌≡◌, ◌≤◌, neg_ℤ, unsigned_abs};
 ghost use Rattle.recipes.specs.Places.{Limits};
-ghost use Rattle.stages.specs.Stages.{weight};
-ghost use Rattle.stages.specs.Taps.{tap_of, turned};
+ghost use Rattle.stages.specs.Taps.{tap_of};
 
 use recipes::places::{Part, Place};
 use recipes::recipe::{Operation, Stage};
@@ -18,37 +17,40 @@ pub struct Tap {
 }
 
 impl Tap {
-    /// The tap of a place of a stage.
+    /// The tap of a place of a stage: a core place weighs the order index, a soft one 1.
     pub fn of(stage: &Stage, place: &Place) -> Tap
         requires { Limits place.now }
         ensures { result ≡ tap_of stage.now place.now }
     {
-        Tap {
-            dx: turned(stage.operation, place.dx) as isize,
-            dy: turned(stage.operation, place.dy) as isize,
-            weight: weight_of(place, stage.element.order_index()),
-            amount: turned(stage.operation, place.amount),
+        let order = stage.element.order_index();
+        let tap = Tap {
+            dx: place.dx as isize,
+            dy: place.dy as isize,
+            weight: match place.part {
+                Part::Core => order,
+                Part::Soft => 1,
+            },
+            amount: place.amount,
+        };
+        match stage.operation {
+            Operation::Erosion => tap,
+            Operation::Dilation => tap.turned(),
         }
     }
-}
 
-/// An offset or amount as an erosion uses it.
-fn turned(operation: Operation, d: i32) -> i32
-    requires { unsigned_abs d ≤ 1024 }
-    ensures { result ≡ turned operation d }
-{
-    match operation {
-        Operation::Erosion => d,
-        Operation::Dilation => -d,
-    }
-}
-
-/// A core place weighs the order index, a soft one 1.
-fn weight_of(place: &Place, order: u32) -> u32
-    ensures { result ≡ weight order place.now }
-{
-    match place.part {
-        Part::Core => order,
-        Part::Soft => 1,
+    /// The tap with its offsets and its amount turned round.
+    fn turned(self) -> Tap
+        requires across { (unsigned_abs self.dx ≤ 1024) × (unsigned_abs self.dy ≤ 1024) }
+        requires deep { unsigned_abs self.amount ≤ 1024 }
+        ensures offsets { (result.dx ≡ neg_ℤ self.dx) × (result.dy ≡ neg_ℤ self.dy) }
+        ensures weight { result.weight ≡ self.weight }
+        ensures amount { result.amount ≡ neg_ℤ self.amount }
+    {
+        Tap {
+            dx: -self.dx,
+            dy: -self.dy,
+            amount: -self.amount,
+            ..self
+        }
     }
 }

@@ -8,7 +8,7 @@ ghost use Rattle.stages.specs.Taps.{tap_of};
 use crate::taps::Tap;
 use recipes::recipe::{Operation, Stage};
 
-/// A stage with the taps of its places, the first `count` of the array.
+/// A stage with the taps of its places, the first `count` of the array. A fixed array, since an element has at most 49 places and nothing here allocates.
 #[derive(Clone, Copy)]
 pub struct Window {
     stage: Stage,
@@ -38,13 +38,16 @@ impl Window {
         &self.taps[0..self.count]
     }
 
-    /// The rank that the stage takes of a window of a total weight.
+    /// The rank that the stage takes of a window of a total weight: an erosion takes the rank k, a dilation the rank total - k + 1.
     pub(crate) fn rank(&self, total: u32) -> u32
         requires { total < 2 ^ 31 }
         ensures { result ≡ rank_of self.now.stage.operation self.now.stage.element.order total }
     {
         let order = self.stage.element.order_index();
-        rank_of(self.stage.operation, order, total)
+        match self.stage.operation {
+            Operation::Erosion => order,
+            Operation::Dilation => total.saturating_sub(order) + 1,
+        }
     }
 }
 
@@ -59,19 +62,9 @@ fn taps_of(stage: &Stage) -> [Tap; 49]
         weight: 1,
         amount: 0,
     }; 49];
+    // By index: after an adapter of `iter_mut`, as `taps.iter_mut().zip(..)`, a proof knows nothing of the items.
     for (i, place) in stage.element.places().iter().enumerate() {
         taps[i] = Tap::of(stage, place);
     }
     taps
-}
-
-/// An erosion takes the rank k, a dilation the rank total - k + 1.
-fn rank_of(operation: Operation, order: u32, total: u32) -> u32
-    requires { total < 2 ^ 31 }
-    ensures { result ≡ rank_of operation order total }
-{
-    match operation {
-        Operation::Erosion => order,
-        Operation::Dilation => total.saturating_sub(order) + 1,
-    }
 }
