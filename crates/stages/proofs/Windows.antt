@@ -1,7 +1,7 @@
 -- Laws of windows: what places add together, how much and on how many codes.
-use Rattle.std.proofs.Common.{◌≡◌, ℕ, ◌+◌, ◌*◌, ◌<◌, ◌≤◌, true, List, [], ◌∷◌, ◌++◌, length, get_or, take, ℤ, pos, negsuc, nat_abs, sum_by, sym, refl, ap, ◌∙◌, subst, arith}
+use Rattle.std.proofs.Common.{◌≡◌, ℕ, ◌+◌, ◌*◌, ◌<◌, ◌≤◌, true, List, [], ◌∷◌, length, get_or, take, ℤ, pos, negsuc, nat_abs, sum_by, sym, refl, ap, ◌∙◌, subst, arith}
 use Rattle.std.specs.List.{ContainsAt as Has, AllByRecursion}
-use Rattle.std.proofs.lemmas.List.Sums.{sum_by-cons, sum_by-append, sum_by_more, get_or-le-sum_by}
+use Rattle.std.proofs.lemmas.List.Sums.{sum_by-cons, sum_by_more, get_or-le-sum_by}
 use Rattle.std.proofs.ByRecursion.{sum_by_le}
 use Rattle.std.proofs.lemmas.Bool.{ltb-true, eq-eqb}
 use Rattle.std.proofs.lemmas.Bool.Decides.{nat_tests}
@@ -44,9 +44,6 @@ module _ {T R : Type 0} (K : Kind T R) (size : Size) (s : Stage) (f : Picture T)
   unfolding window
   window_sum [] c = refl
   window_sum (p ∷ ps) c = ap (λ n. adds K size s f x y p c + n) (window_sum ps c) ∙ sym (sum_by-cons (λ q. adds K size s f x y q c) p ps)
-
-  pub window_append : (ps qs : List Place) (c : ℕ) → window K size s f x y (ps ++ qs) c ≡ window K size s f x y ps c + window K size s f x y qs c
-  window_append ps qs c = omega (arith, window_sum (ps ++ qs) c, window_sum ps c, window_sum qs c, sum_by-append (λ p. adds K size s f x y p c) ps qs)
 
   -- a loop's step
   pub window_more : (ps : List Place) (i c : ℕ) (d : Place) → i < length ps → window K size s f x y (take (i + 1) ps) c ≡ window K size s f x y (take i ps) c + adds K size s f x y (get_or ps i d) c

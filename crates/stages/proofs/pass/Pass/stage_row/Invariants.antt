@@ -7,7 +7,9 @@ invariant-loop-x g l =
     let s = g.S.Selector in
     let k = g.T.Tone.kind in
     let m = l.initial.memory in
-    s.ordered l.selector
-    × (s.range l.selector ≡ s.range l.initial.selector)
-    × (l.memory ≡ row_made k l.self.frame.size l.self.window.now.stage l.self.from m l.y l.left l.x l.self.into)
-    × ((c : ℕ) → s.weight l.selector c ≡ row_weights k l.self.frame.size l.self.window.now.stage l.self.from m l.y l.left l.x (s.weight l.initial.selector) c)
+    record {
+      in_order : s.ordered l.selector;
+      range_kept : s.range l.selector ≡ s.range l.initial.selector;
+      memory : l.memory ≡ row_made k l.self.frame.size l.self.window.now.stage l.self.from m l.y l.left l.x l.self.into;
+      weights : (c : ℕ) → s.weight l.selector c ≡ row_weights k l.self.frame.size l.self.window.now.stage l.self.from m l.y l.left l.x (s.weight l.initial.selector) c;
+    }

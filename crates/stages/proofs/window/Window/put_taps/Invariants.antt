@@ -8,6 +8,9 @@ abbrev pub invariant-loop-tap : goal.invariant-loop-tap
 invariant-loop-tap g l =
     let s = g.S.Selector in
     let k = g.T.Tone.kind in
-    s.ordered l.selector
-    × (s.range l.selector ≡ s.range l.initial.selector)
-    × ((c : ℕ) → s.weight l.selector c ≡ window k l.site.frame.size l.self.stage (picture k l.site.frame.size 0 l.site.plane.now) l.site.x l.site.y (take l.tap-index (placed l.self.stage.element)) c)
+    let site = l.site in
+    record {
+      in_order : s.ordered l.selector;
+      range_kept : s.range l.selector ≡ s.range l.initial.selector;
+      weights : (c : ℕ) → s.weight l.selector c ≡ window k site.frame.size l.self.stage (picture k site.frame.size 0 site.plane.now) site.x site.y (take l.tap-index (placed l.self.stage.element)) c;
+    }
