@@ -14,10 +14,6 @@ use Rattle.tones.specs.Kind.{Kind}
 use Rattle.filters.specs.Restaging.{lines, staged, rows_made}
 use Rattle.filters.proofs.Overwriting.{overwritten_on}
 
--- a plane ends where the next begins
-pub plane_end : (size : Size) (j : ℕ) → start size (j + 1) ≡ start size j + area size
-plane_end size j = omega (arith, ap (λ k. k * area size) (add-one j), suc-mul j (area size))
-
 module _ {T R : Type 0} (K : Kind T R) where
   -- pictures that agree on a row's stretch have the same rows there
   line_same : (f g : Picture T) (y x n : ℕ) → ((u : ℕ) → f u y ≡ g u y) → line K f y x n ≡ line K g y x n

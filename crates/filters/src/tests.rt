@@ -1,6 +1,7 @@
 //! An opening: two stages with one element.
 
 use crate::whole::stage_plane;
+use planes::frame::Frame;
 use planes::size::Size;
 use recipes::element::Element;
 use recipes::recipe::{Operation, Stage};
@@ -12,10 +13,10 @@ fn an_opening_by_the_cross_of_order_2(rt: HostRuntime) {
     let mut element = Element::new();
     assert!(rt; element.standard(0).is_ok());
     assert!(rt; element.order(2).is_ok());
-    let size = Size {
+    let frame = Frame::new(Size {
         width: 3,
         height: 3,
-    };
+    });
     let mut selector = Histogram::new();
     let mut memory = [
         10, 20, 30, 40, 50, 60, 70, 80, 90, 0, 0, 0, 0, 0, 0, 0, 0, 0, 0, 0, 0, 0, 0, 0, 0, 0, 0,
@@ -26,7 +27,7 @@ fn an_opening_by_the_cross_of_order_2(rt: HostRuntime) {
             operation: Operation::Erosion,
             element,
         },
-        size,
+        frame,
         &mut memory,
         0,
     );
@@ -36,7 +37,7 @@ fn an_opening_by_the_cross_of_order_2(rt: HostRuntime) {
             operation: Operation::Dilation,
             element,
         },
-        size,
+        frame,
         &mut memory,
         1,
     );

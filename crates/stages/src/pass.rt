@@ -9,10 +9,10 @@ use planes::frame::Frame;
 /// A stage's window, and where the plane that it reads and the later one that it writes begin.
 #[derive(Clone, Copy)]
 pub struct Pass<'a> {
-    pub(crate) window: &'a Window,
-    pub(crate) frame: Frame,
-    pub(crate) from: usize,
-    pub(crate) into: usize,
+    pub window: &'a Window,
+    pub frame: Frame,
+    pub from: usize,
+    pub into: usize,
     ghost apart: { from + area frame.size ≤ into },
 }
 
