@@ -1,15 +1,11 @@
 -- Entries es, of which the first n rise: their sums, and what a put leaves. Assumes nothing.
-use Rattle.std.proofs.Common.{◌≡◌, ℕ, suc, ◌+◌, ◌-◌, ◌<◌, ◌≤◌, cond, ltb, List, length, get_or, take, set, Ok, Err, Result, sym, ap, ◌∙◌, ⊎_elim, arith}
-use Rattle.std.proofs.lemmas.Bool.{cases_eq, cases_lt, lt-ltb, le-ltb}
-use Rattle.std.proofs.lemmas.List.{length-take-le, get_or-set_same, get_or-set_other}
+use Rattle.std.proofs.Common.{◌≡◌, ℕ, suc, ◌<◌, ◌≤◌, cond, ltb, List, length, get_or, take, ap, ◌∙◌, ⊎_elim, arith}
+use Rattle.std.proofs.lemmas.Bool.{cases_eq, lt-ltb, le-ltb}
+use Rattle.std.proofs.lemmas.List.{length-take-le}
 use Rattle.std.proofs.lemmas.Bool.Decides.{nat_tests}
-use Rattle.std.proofs.lemmas.Cmp.{ranked}
-use Rattle.std.proofs.lemmas.List.Sorted.{IsNonDecreasingBy-from_default}
-use Rattle.std.specs.List.Sorted.{IsBinarySearchResult, IsNonDecreasingBy, IsSearchInRange}
-use Rattle.std.specs.Ordering.{nat_cmp, ordering_index}
 use Rattle.selectors.specs.declared.entries.Entry.{Entry}
 use Rattle.selectors.specs.Bag.{below}
-use Rattle.selectors.specs.Entries.{blank, weigh, Rising, Seat}
+use Rattle.selectors.specs.Entries.{blank, weigh, Rising}
 use Rattle.selectors.proofs.Sums.{below_cut, below_le}
 use Rattle.selectors.proofs.Weighing.{below_weigh, front_at}
 
@@ -46,11 +42,3 @@ rising_front es n le r i j l m =
     let a : (get_or (take n es) i blank).code ≡ (get_or es i blank).code = ap (λ e. e.code) (front_at es n i (omega arith)) in
     let b : (get_or (take n es) j blank).code ≡ (get_or es j blank).code = ap (λ e. e.code) (front_at es n j k) in
     omega (arith, a, b, r i j l k)
-
--- where a code that no entry has belongs
-pub seat_none : (es : List Entry) (n c at : ℕ) → n ≤ length es → Seat (take n es) c (Err at) → ((i : ℕ) → i < at → (get_or es i blank).code < c) × ((i : ℕ) → at ≤ i → i < n → c < (get_or es i blank).code)
-seat_none es n c at le s =
-    let len = length-take-le n es le in (
-      λ i l. (let e : (get_or (take n es) i blank).code ≡ (get_or es i blank).code = ap (λ x. x.code) (front_at es n i (omega (arith, len, s.0))) in omega (arith, e, s.1 i l)),
-      λ i l m. (let e : (get_or (take n es) i blank).code ≡ (get_or es i blank).code = ap (λ x. x.code) (front_at es n i m) in omega (arith, e, s.2 i l (omega (arith, len)))),
-    )

@@ -1,13 +1,13 @@
 -- Entries es, of which the first n are kept and weigh s together: a put on a code that has one, and on a code that has none.
 -- Assumes nothing.
-use Rattle.std.proofs.Common.{◌≡◌, ℕ, ◌+◌, ◌-◌, ◌<◌, ◌≤◌, cond, eqb, List, length, get_or, take, set, Ok, Err, Result, sym, ap, ◌∙◌, subst, ⊎_elim, arith}
-use Rattle.std.proofs.lemmas.Bool.{cases_lt, eq-eqb, ne_eqb}
+use Rattle.std.proofs.Common.{◌≡◌, ℕ, ◌+◌, ◌<◌, ◌≤◌, cond, eqb, List, length, get_or, take, set, Ok, Err, sym, ap, ◌∙◌, subst, arith}
+use Rattle.std.proofs.lemmas.Bool.{eq-eqb, ne_eqb}
 use Rattle.std.proofs.lemmas.List.{length-take-le}
 use Rattle.selectors.specs.declared.entries.Entry.{Entry}
-use Rattle.selectors.specs.Entries.{blank, weigh, Weighty, Inserted, Found, Seat}
+use Rattle.selectors.specs.Entries.{blank, weigh, Weighty, Found}
 use Rattle.selectors.specs.Tally.{Tally}
 use Rattle.selectors.proofs.Tallies.{tally_added}
-use Rattle.selectors.proofs.Weighing.{raised, weigh_some, weigh_more, weigh_inserted, front_at}
+use Rattle.selectors.proofs.Weighing.{Inserted, raised, weigh_some, weigh_more, weigh_inserted, front_at}
 
 -- what a search among the first n entries finds
 pub found_some : (es : List Entry) (n c i : ℕ) → n ≤ length es → Found (take n es) c (Ok i) → (i < n) × ((get_or es i blank).code ≡ c)
@@ -42,8 +42,3 @@ tally_inserted es fs R n s at e t le ins none within pos few light =
     let more : n + cond {A = ℕ} (eqb (weigh es n c) 0) 1 0 ≡ n + 1 = omega (arith, new) in
     subst (λ m. Tally (weigh fs (n + 1)) R m (s + a)) more
     (tally_added (weigh es n) (weigh fs (n + 1)) R n s c a t (λ d. weigh_inserted es fs n at e d le ins) within pos (omega arith) light)
-
--- a place where a code belongs is one where it may come
-pub found_seat : (es : List Entry) (c : ℕ) (r : Result ℕ ℕ) → Seat es c r → Found es c r
-found_seat es c (Ok i) s = s
-found_seat es c (Err at) s = (s.0, λ i l e. ⊎_elim (λ (k : i < at). omega (arith, s.1 i k)) (λ (k : at ≤ i). omega (arith, s.2 i k l)) (cases_lt i at))

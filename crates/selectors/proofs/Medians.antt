@@ -1,15 +1,18 @@
 -- Entries put one by one, and the rank of the median. Assumes nothing.
-use Rattle.std.proofs.Common.{◌≡◌, ℕ, zero, suc, ◌+◌, ◌/◌, ◌%◌, ◌<◌, ◌≤◌, min, ◌||◌, eqb, leb, ◌⊎◌, List, get_or, Ok, Err, Result, sym, refl, ap, ◌∙◌, ⊎_elim, arith, below_more as each_more}
+use Rattle.std.proofs.Common.{◌≡◌, ℕ, zero, suc, ◌+◌, ◌/◌, ◌%◌, ◌<◌, ◌≤◌, min, ◌||◌, eqb, leb, ◌⊎◌, List, length, get_or, Ok, Err, Result, sym, refl, ap, ◌∙◌, subst, ⊎_elim, arith, below_more as each_more}
+use Rattle.std.specs.Result.{result_map_both}
 use mathlib.Core.Path.{fun_ext}
 use Rattle.std.proofs.lemmas.Bool.Decides.{nat_tests}
 use Rattle.std.proofs.lemmas.Bool.{cases_eq, cases_lt, eq-eqb, le-leb, or_left, or_right}
 use Rattle.selectors.specs.declared.entries.Entry.{Entry}
+use Rattle.selectors.specs.declared.median.MedianRefusal.TheVariants.{NoEntries}
 use Rattle.selectors.specs.declared.refusals.PutRefusal.{PutRefusal}
 use Rattle.selectors.specs.declared.refusals.PutRefusal.TheVariants.{Unfit}
+use Rattle.selectors.specs.declared.refusals.SelectRefusal.{SelectRefusal}
 use Rattle.selectors.specs.Bag.{below, added, Ranked}
-use Rattle.selectors.specs.Calls.{put_answer}
+use Rattle.selectors.specs.Calls.{put_answer, Selected}
 use Rattle.selectors.specs.Entries.{blank, share, weigh}
-use Rattle.selectors.specs.Median.{put_at, Taken, Halves}
+use Rattle.selectors.specs.Median.{put_at, put_count, Taken, Halves, Median}
 use Rattle.selectors.proofs.Sums.{below_more, below_at}
 use Rattle.selectors.proofs.Ranks.{ranked_below}
 use Rattle.selectors.proofs.Weighing.{weigh_some}
@@ -50,3 +53,11 @@ halves_from w R t r c whole half pos p = let less = ranked_below w r c pos p in 
 -- no such rank is only that of nothing
 pub half_none : (w : ℕ → ℕ) (R t r : ℕ) → t ≡ below w R → r ≡ t / 2 + min 1 (t % 2) → (r ≡ 0) ⊎ (below w R < r) → below w R ≡ 0
 half_none w R t r whole half none = ⊎_elim (λ (z : r ≡ 0). omega arith) (λ (z : below w R < r). absurd (omega arith)) none
+
+-- with all entries put, the code at that rank is the median, and no such code says that there are no entries
+pub median_end : (es : List Entry) (w : ℕ → ℕ) (R t r : ℕ) (x : Result ℕ SelectRefusal) → Taken es R (length es) → w ≡ weigh es (length es) → t ≡ below w R → r ≡ t / 2 + min 1 (t % 2) → Selected w R r x → Median es R (result_map_both (λ n. n) (λ _. NoEntries) x) × ((d : ℕ) → w d ≡ weigh es (put_count es (result_map_both (λ n. n) (λ _. NoEntries) x)) d)
+median_end es w R t r (Ok c) taken bag whole half sel = ((taken, subst (λ v. Halves v R c) bag (halves_from w R t r c whole half sel.0 sel.2)), λ d. ap (λ v. v d) bag)
+median_end es w R t r (Err e) taken bag whole half sel =
+    let zero : below w R ≡ 0 = half_none w R t r whole half sel.1 in
+    let none : length es ≡ 0 = taken_none es R (length es) taken (subst (λ v. below v R ≡ 0) bag zero) in
+    (none, λ d. ap (λ v. v d) bag ∙ ap (λ k. weigh es k d) none)

@@ -1,13 +1,13 @@
 -- The bag of a list of entries: what an entry more, or more weight on an entry, makes of it. Assumes nothing.
 use Rattle.std.proofs.Common.{◌≡◌, ℕ, zero, suc, ◌+◌, ◌-◌, ◌<◌, ◌≤◌, cond, eqb, ltb, List, length, get_or, take, set, sym, ap, ◌∙◌, ⊎_elim, add-one, arith, length-set}
 use mathlib.Core.Path.{fun_ext}
-use Rattle.std.proofs.lemmas.Bool.{cases_eq, cases_lt}
+use Rattle.std.proofs.lemmas.Bool.{cases_eq}
 use Rattle.std.proofs.lemmas.Bool.Decides.{nat_tests}
 use Rattle.std.proofs.lemmas.List.{get_or-set_same, get_or-set_other, get_or-take, length-take-le}
 use Rattle.std.specs.List.{CopiedTo, SameBelow}
 use Rattle.selectors.specs.declared.entries.Entry.{Entry}
 use Rattle.selectors.specs.Bag.{below, added}
-use Rattle.selectors.specs.Entries.{blank, share, weigh, Weighty, Inserted}
+use Rattle.selectors.specs.Entries.{blank, share, weigh}
 use Rattle.selectors.proofs.Sums.{below_zero, below_suc, below_same, below_none, below_at, below_added, below_inserted}
 
 -- no entries, no weight
@@ -48,6 +48,14 @@ weigh_more es n i c a d l w e =
     let plus : below (added f i b) n ≡ below f n + b = below_added f i b n l in
     let fin : below f n + b ≡ added (weigh es n) c a d = grind (arith, nat_tests) in
     sum ∙ plus ∙ fin
+
+-- fs is es with e at the place at, and the entries from there up to the n-th one place on
+abbrev pub Inserted : List Entry → List Entry → ℕ → ℕ → Entry → Type 0
+Inserted es fs n at e =
+    (length fs ≡ length es)
+    × ((i : ℕ) → i < at → get_or fs i blank ≡ get_or es i blank)
+    × (get_or fs at blank ≡ e)
+    × ((i : ℕ) → at ≤ i → i < n → get_or fs (suc i) blank ≡ get_or es i blank)
 
 -- one entry more
 pub weigh_inserted : (es fs : List Entry) (n at : ℕ) (e : Entry) (d : ℕ) → at ≤ n → Inserted es fs n at e → weigh fs (n + 1) d ≡ added (weigh es n) e.code e.weight d

@@ -1,5 +1,5 @@
 -- The bag that a list of entries stands for. Assumes nothing.
-use Rattle.std.specs.Prelude.{◌≡◌, ℕ, suc, ◌/◌, ◌^◌, ◌<◌, ◌≤◌, cond, List, length, get_or, Ok, Err, Result, ◌==◌, ◌≢◌, slice_index_or}
+use Rattle.std.specs.Prelude.{◌≡◌, ℕ, ◌/◌, ◌^◌, ◌<◌, ◌≤◌, cond, List, length, get_or, Ok, Err, Result, ◌==◌, ◌≢◌, slice_index_or}
 use Rattle.selectors.specs.declared.entries.Entry.{Entry}
 use Rattle.selectors.specs.Bag.{below}
 
@@ -47,11 +47,3 @@ Seat es c (Err at) =
 -- an entry that a put may take: it has weight, and its code is below the range
 abbrev pub Fit : Entry → Type 0
 Fit e = (0 < e.weight) × (e.code < 33554432)
-
--- fs is es with e at the place at, and the entries from there up to the n-th one place on
-abbrev pub Inserted : List Entry → List Entry → ℕ → ℕ → Entry → Type 0
-Inserted es fs n at e =
-    (length fs ≡ length es)
-    × ((i : ℕ) → i < at → slice_index_or fs i blank ≡ slice_index_or es i blank)
-    × (slice_index_or fs at blank ≡ e)
-    × ((i : ℕ) → at ≤ i → i < n → slice_index_or fs (suc i) blank ≡ slice_index_or es i blank)

@@ -75,7 +75,7 @@ fn narrow(entries: &[Entry], rank: u32) -> u32
     let mut left = rank;
     for bit in (0..25u32).rev() {
         let mut lower = 0;
-        // A plain loop over all entries, with no early stop: that is the gate's form.
+        // A plain loop over all entries with no early stop: the gate's select is to take that form.
         for entry in entries {
             lower += weight_under(*entry, bit, low);
         }

@@ -3,18 +3,16 @@ ghost use Rattle.std.specs.Prelude.{◌≡◌, ℕ, length, slice_index};
 ghost use Rattle.selectors.specs.Tally.{Tally};
 ghost use Rattle.std.proofs.Common.{rules};
 
-use crate::limits::{MOST_CODES, MOST_WEIGHT};
+use crate::limits::{MOST_CODES, heavier};
 use crate::refusals::{PutRefusal, SelectRefusal};
 use crate::selector::Selector;
 
-const RANGE: u32 = 512;
+const RANGE: usize = 512;
 
-const SIZE: usize = 512;
-
-/// A selector over the codes below 512 that keeps the weight of every code.
+/// A selector over the codes below 512 that keeps the weight of every code. The weights are a fixed array: the range bounds their number, and nothing here may allocate.
 #[derive(Clone, Copy)]
 pub struct Histogram {
-    weights: [u16; SIZE],
+    weights: [u16; RANGE],
     count: usize,
     sum: u32,
     ghost size: { length weights ≡ 512 },
@@ -27,7 +25,7 @@ impl Histogram {
         ensures weights { (c : ℕ) → slice_index result.weights c ≡ 0 }
     {
         Histogram {
-            weights: [0; SIZE],
+            weights: [0; RANGE],
             count: 0,
             sum: 0,
         }
@@ -46,7 +44,7 @@ impl Selector for Histogram {
     ghost few = { Prim.search rules };
 
     fn range(&self) -> u32 {
-        RANGE
+        RANGE as u32
     }
 
     fn empty(&mut self) {
@@ -54,21 +52,18 @@ impl Selector for Histogram {
     }
 
     fn put(&mut self, code: u32, amount: u32) -> Result<(), PutRefusal> {
-        if amount == 0 || code >= RANGE {
+        let place = code as usize;
+        if amount == 0 || place >= RANGE {
             return Err(PutRefusal::Unfit);
         }
-        let old = self.weights[code as usize];
+        let old = self.weights[place];
         let count = self.count + usize::from(old == 0);
         if count > MOST_CODES {
             return Err(PutRefusal::Full);
         }
-        let sum = self.sum;
-        if amount > MOST_WEIGHT - sum {
-            return Err(PutRefusal::Heavy);
-        }
-        self.weights[code as usize] = old + amount as u16;
+        self.sum = heavier(self.sum, amount)?;
+        self.weights[place] = old + amount as u16;
         self.count = count;
-        self.sum = sum + amount;
         Ok(())
     }
 
@@ -82,6 +77,7 @@ impl Selector for Histogram {
         }
         let mut code = 0;
         let mut running = 0;
+        // The histogram's select is to be a loop that yields the code by `break`.
         let chosen = loop {
             running += u32::from(self.weights[code as usize]);
             if running >= rank {

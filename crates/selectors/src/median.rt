@@ -44,13 +44,10 @@ pub fn weighted_median<S: Selector>(
 {
     selector.empty();
     for (index, entry) in entries.iter().enumerate() {
-        if let Err(refusal) = selector.put(entry.code, entry.weight) {
-            return Err(MedianRefusal::Refused(index, refusal));
-        }
+        selector
+            .put(entry.code, entry.weight)
+            .map_err(|refusal| MedianRefusal::Refused(index, refusal))?;
     }
     let half = selector.total().div_ceil(2);
-    match selector.select(half) {
-        Ok(code) => Ok(code),
-        Err(_) => Err(MedianRefusal::NoEntries),
-    }
+    selector.select(half).map_err(|_| MedianRefusal::NoEntries)
 }

@@ -6,11 +6,11 @@ ghost use Rattle.selectors.specs.Calls.{put_number, select_number};
 #[derive(Clone, Copy, PartialEq, Eq, Debug)]
 pub enum PutRefusal {
     /// The weight is 0, or the code is not below the range.
-    Unfit,
+    Unfit = 2,
     /// 64 codes have weight, and this one has none.
-    Full,
+    Full = 3,
     /// The total would pass 65,535.
-    Heavy,
+    Heavy = 4,
 }
 
 impl PutRefusal {
@@ -18,11 +18,7 @@ impl PutRefusal {
     pub fn number(self) -> u32
         ensures { result ≡ put_number self }
     {
-        match self {
-            PutRefusal::Unfit => 2,
-            PutRefusal::Full => 3,
-            PutRefusal::Heavy => 4,
-        }
+        self as u32
     }
 }
 
@@ -30,7 +26,7 @@ impl PutRefusal {
 #[derive(Clone, Copy, PartialEq, Eq, Debug)]
 pub enum SelectRefusal {
     /// The rank is 0 or above the total.
-    Unranked,
+    Unranked = 5,
 }
 
 impl SelectRefusal {
@@ -38,8 +34,6 @@ impl SelectRefusal {
     pub fn number(self) -> u32
         ensures { result ≡ select_number self }
     {
-        match self {
-            SelectRefusal::Unranked => 5,
-        }
+        self as u32
     }
 }

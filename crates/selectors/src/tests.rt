@@ -19,10 +19,9 @@ fn puts<S: Selector>(
     ensures in_order { S.ordered selector.new }
 {
     for (code, weight, expected) in table {
-        let number = match selector.put(*code, *weight) {
-            Ok(()) => 0,
-            Err(refusal) => refusal.number(),
-        };
+        let number = selector
+            .put(*code, *weight)
+            .map_or_else(|refusal| refusal.number(), |()| 0);
         assert_eq!(rt; number, *expected);
     }
     Ok(())
@@ -37,10 +36,7 @@ fn selects<S: Selector>(
     requires { S.ordered selector.now }
 {
     for (rank, expected) in table {
-        let answer = match selector.select(*rank) {
-            Ok(code) => Ok(code),
-            Err(refusal) => Err(refusal.number()),
-        };
+        let answer = selector.select(*rank).map_err(|refusal| refusal.number());
         assert_eq!(rt; answer, *expected);
     }
     Ok(())

@@ -8,5 +8,5 @@ invariant-loop-index g l =
     let s = g.S.Selector in
     s.ordered l.selector
     × (s.range l.selector ≡ s.range l.initial.selector)
-    × ((c : ℕ) → s.weight l.selector c ≡ weigh l.entries l.index c)
-    × Taken l.entries (s.range l.initial.selector) l.index
+    × ((c : ℕ) → s.weight l.selector c ≡ weigh l.entries l.index-counter c)
+    × Taken l.entries (s.range l.initial.selector) l.index-counter

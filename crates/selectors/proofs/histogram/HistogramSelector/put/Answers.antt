@@ -17,5 +17,5 @@ invariant_of-self c =
     let new : c.from.result ≡ cond {A = ℕ} (eqb (w code) 0) 1 0 = grind (arith, nat_tests) in
     record {
       size = length-set ws code (w code + a) ∙ c.args.self.now.size;
-      tally = rw new (tally_added w _ 512 _ _ code a c.args.self.now.tally (λ d. getD_added ws code a d within) (omega arith) (omega arith) (omega arith) (omega arith));
+      tally = rw (c.in_ok-self.ensures.0, new) (tally_added w _ 512 _ _ code a c.args.self.now.tally (λ d. getD_added ws code a d within) (omega arith) (omega arith) (omega arith) (omega arith));
     }
