@@ -1,0 +1,10 @@
+use Rattle.std.proofs.Common.{take}
+use Rattle.std.specs.Fmt.{HasWritten, IsPlainFormatter}
+use Rattle.plain.specs.Texts.{plain}
+use Rattle.plain.proofs.texts.PlainPgmDisplay.fmt.Given as goal
+
+-- what is written is the picture with the tones so far
+abbrev pub invariant-loop-tone : goal.invariant-loop-tone
+invariant-loop-tone g l =
+    IsPlainFormatter l.fn.f
+    → HasWritten g.W.Write.write_str_gives l.fn.f (plain l.fn.self.width l.fn.self.height (take l.tone-index l.tone-items)) l.f

@@ -1,0 +1,28 @@
+-- What is printed of a file.
+use Rattle.std.specs.Prelude.{◌≡◌, ℕ, cond, List, ◌++◌, length, take, codes, decimal, nat_lt}
+use Rattle.std.specs.List.{flat_map}
+use Rattle.pgm.specs.Numbers.{number_of, byte_of}
+use Rattle.pgm.specs.Reading.{Reading, Reads}
+use Rattle.pgm.specs.declared.faults.FileFault.{FileFault}
+
+-- as much of a file as is read: the longest has 16,640 bytes, and one more shows that it is too large
+abbrev pub first_bytes : List ℕ → List ℕ
+first_bytes file = take 16641 file
+
+abbrev pub line : ℕ → List ℕ
+line t = decimal t ++ codes "\n"
+
+-- one tone a line
+abbrev pub lines : List ℕ → List ℕ
+lines ts = flat_map line ts
+
+-- a picture as plain PGM
+abbrev pub plain : ℕ → ℕ → List ℕ → List ℕ
+plain w h tones = codes "P2\n" ++ (decimal w ++ (codes " " ++ (decimal h ++ (codes "\n255\n" ++ lines tones))))
+
+abbrev pub refused : FileFault → List ℕ
+refused f = codes "refused " ++ (decimal (number_of f) ++ (codes " " ++ (decimal (byte_of f) ++ codes "\n")))
+
+-- a file of more than 16,640 bytes is too large, whatever it holds; of any other the text is one for how it is read
+abbrev pub Tells : (Reading → List ℕ → Type 0) → List ℕ → List ℕ → Type 0
+Tells Text file bs = cond (nat_lt 16640 (length file)) (bs ≡ codes "too large\n") ((x : Reading) × Reads file x × Text x bs)

@@ -1,0 +1,43 @@
+// What is printed of a file: its picture, or why it is refused.
+
+ghost use Rattle.plain.specs.Texts.{plain, refused};
+ghost use Rattle.std.specs.Prelude.{Some};
+
+use pgm::faults::FileFault;
+use std::fmt;
+
+/// A picture, which is printed as plain PGM: its size, and then a tone a line.
+#[derive(Clone, Copy)]
+pub struct PlainPgm<'a> {
+    pub width: usize,
+    pub height: usize,
+    pub tones: &'a [u8],
+}
+
+/// A refusal, which is printed as its number and the byte at fault.
+#[derive(Clone, Copy)]
+pub struct Refused(pub FileFault);
+
+impl fmt::Display for PlainPgm<'_> {
+    ghost output = { λ picture. Some (plain picture.width picture.height picture.tones.now) };
+
+    fn fmt<W: fmt::Write>(&self, f: &mut fmt::Formatter<W>) -> fmt::Result {
+        let width = self.width;
+        let height = self.height;
+        write!(f, "P2\n{width} {height}\n255\n")?;
+        for tone in self.tones {
+            writeln!(f, "{tone}")?;
+        }
+        Ok(())
+    }
+}
+
+impl fmt::Display for Refused {
+    ghost output = { λ refusal. Some (refused refusal.0) };
+
+    fn fmt<W: fmt::Write>(&self, f: &mut fmt::Formatter<W>) -> fmt::Result {
+        let number = self.0.number();
+        let byte = self.0.byte();
+        writeln!(f, "refused {number} {byte}")
+    }
+}
