@@ -1,5 +1,3 @@
-mod Printing
-mod Lines
 mod Running
 mod Collecting
 mod Crosses

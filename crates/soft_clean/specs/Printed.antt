@@ -1,22 +1,9 @@
 -- What is printed of a file. Assumes nothing.
-use Rattle.std.specs.Prelude.{◌≡◌, ℕ, cond, List, [], ◌∷◌, ◌++◌, length, codes, decimal, nat_lt}
-use Rattle.pgm.specs.Numbers.{number_of, byte_of}
-use Rattle.pgm.specs.Reading.{Reading, Reads}
+use Rattle.std.specs.Prelude.{◌≡◌, ℕ, List}
+use Rattle.pgm.specs.Reading.{Reading}
 use Rattle.pgm.specs.Reading.Reading.{Shows, Faulty}
-use Rattle.pgm.specs.declared.faults.FileFault.{FileFault}
+use Rattle.plain.specs.Texts.{Tells, plain, refused}
 use Rattle.soft_clean.specs.Cleaning.{Eroded, size}
-
--- one tone a line
-unfoldable pub lines : List ℕ → List ℕ
-lines [] = []
-lines (t ∷ ts) = decimal t ++ (10 ∷ lines ts)
-
--- a picture as plain PGM
-abbrev pub plain : ℕ → ℕ → List ℕ → List ℕ
-plain w h tones = codes "P2\n" ++ (decimal w ++ (codes " " ++ (decimal h ++ (codes "\n255\n" ++ lines tones))))
-
-abbrev pub refused : FileFault → List ℕ
-refused f = codes "refused " ++ (decimal (number_of f) ++ (codes " " ++ (decimal (byte_of f) ++ codes "\n")))
 
 -- a picture is printed eroded by the cross of order 2, a faulty file as refused
 abbrev pub Text : Reading → List ℕ → Type 0
@@ -25,4 +12,4 @@ Text (Faulty f) bs = bs ≡ refused f
 
 -- a file of more than 16,640 bytes is too large, whatever it holds; any other is printed as it is read
 abbrev pub Printed : List ℕ → List ℕ → Type 0
-Printed file bs = cond (nat_lt 16640 (length file)) (bs ≡ codes "too large\n") ((x : Reading) × Reads file x × Text x bs)
+Printed = Tells Text

@@ -12,6 +12,7 @@ ghost use Rattle.tones.specs.Greys.{greys};
 
 use cards::card::Card;
 use pgm::picture::Picture;
+use planes::size::Size;
 use recipes::draft::Draft;
 use recipes::element::Element;
 use selectors::Histogram;
@@ -19,43 +20,35 @@ use std::alloc::Global;
 use std::io;
 use tones::{Grey, Tone};
 
-/// The tones of a file's picture, eroded by the cross of order 2, row by row.
+/// The tones of a file's picture, eroded by the cross of order 2, row by row: over memory for a card of one stage the
+/// file is loaded, the erosion installed, and every row made.
 pub fn cleaned(heap: Global, file: &[u8], picture: Picture<'_>) -> io::Result<Vec<u8>>
     requires { Reads file.now (reading (Ok picture)) }
     ensures { IfOk result (λ v. Eroded (size picture.entry.width picture.entry.height) picture.entry.samples.now v.items) }
 {
-    let mut memory = vec![in heap; 0; 2 * picture.width * picture.height]?;
-    cleaned_in(heap, memory.as_mut_slice(), file, picture)
-}
-
-/// The same, over memory for a card of one stage: the file is loaded, the erosion installed, and every row made.
-fn cleaned_in(
-    heap: Global,
-    memory: &mut [u8],
-    file: &[u8],
-    picture: Picture<'_>,
-) -> io::Result<Vec<u8>>
-    requires reads { Reads file.now (reading (Ok picture)) }
-    requires long { length memory.old ≡ 2 * (picture.width * picture.height) }
-    ensures { IfOk result (λ v. Eroded (size picture.entry.width picture.entry.height) picture.entry.samples.now v.items) }
-{
-    let mut card = opened(memory, picture.width, picture.height);
+    let size = Size {
+        width: picture.width,
+        height: picture.height,
+    };
+    let mut bytes = vec![in heap; 0; 2 * size.width * size.height]?;
+    let memory = bytes.as_mut_slice();
+    let mut card = opened(memory, size);
     card.load(memory, 0, 0, file).unwrap();
     card.install(memory, erosion(&cross())).unwrap();
     let left = card.left();
     card.work(memory, left).unwrap();
-    rows(heap, &card, memory, picture.width, picture.height)
+    rows(heap, &card, memory, size)
 }
 
 /// An open card over memory for one stage.
-fn opened(memory: &[u8], width: usize, height: usize) -> Card<Grey, Histogram>
-    requires limits { Limits (size width height) }
-    requires long { length memory.now ≡ 2 * (width * height) }
-    ensures promise { Promise greys (size width height) 1 (state result memory.now) }
+fn opened(memory: &[u8], size: Size) -> Card<Grey, Histogram>
+    requires limits { Limits size }
+    requires long { length memory.now ≡ 2 * (size.width * size.height) }
+    ensures promise { Promise greys size 1 (state result memory.now) }
     ensures in_order { Ready result }
 {
     let mut card = Card::<Grey, Histogram>::new(Histogram::new());
-    card.open(memory, width, height, 1).unwrap();
+    card.open(memory, size.width, size.height, 1).unwrap();
     card
 }
 
@@ -84,15 +77,14 @@ fn rows(
     heap: Global,
     card: &Card<Grey, Histogram>,
     memory: &[u8],
-    width: usize,
-    height: usize,
+    size: Size,
 ) -> io::Result<Vec<u8>>
-    requires { (f : Shades) × HandsOut (state card.now memory.now) (size width height) f }
-    ensures { IfOk result (λ v. ((f : Shades) → HandsOut (state card.now memory.now) (size width height) f → v.items ≡ lines greys (size width height) f height)) }
+    requires { (f : Shades) × HandsOut (state card.now memory.now) size f }
+    ensures { IfOk result (λ v. ((f : Shades) → HandsOut (state card.now memory.now) size f → v.items ≡ lines greys size f size.height)) }
 {
     let mut tones = Vec::new(heap);
-    for y in 0..height {
-        tones.extend_from_slice(card.row(memory, 0, y, width).unwrap())?;
+    for y in 0..size.height {
+        tones.extend_from_slice(card.row(memory, 0, y, size.width).unwrap())?;
     }
     Ok(tones)
 }

@@ -5,13 +5,12 @@
 mod cleaning;
 mod text;
 
+use plain::input::file_from;
 use std::io;
-use std::io::Read;
-use text::{LONGEST, report};
+use text::report;
 
 fn main(rt: HostRuntime) -> io::Result<()> {
     let heap = rt.alloc();
-    let mut file = Vec::new(heap);
-    rt.stdin().take(LONGEST as u64 + 1).read_to_end(&mut file)?;
+    let file = file_from(heap, rt.stdin())?;
     rt.print(report(heap, file.as_slice())?)
 }

@@ -1,9 +1,9 @@
 use Rattle.std.proofs.Common.{◌≡◌, vec_items}
 use Rattle.filters.specs.Restaging.{lines}
 use Rattle.tones.specs.Greys.{greys}
-use Rattle.soft_clean.specs.Cleaning.{HandsOut, Shades, size, state}
+use Rattle.soft_clean.specs.Cleaning.{HandsOut, Shades, state}
 use Rattle.soft_clean.proofs.cleaning.rows.Given as goal
 
 -- the rows so far
 abbrev pub invariant-loop-y : goal.invariant-loop-y
-invariant-loop-y l = (f : Shades) → HandsOut (state l.card l.memory) (size l.width l.height) f → vec_items l.tones ≡ lines greys (size l.width l.height) f l.y
+invariant-loop-y l = (f : Shades) → HandsOut (state l.card l.memory) l.size f → vec_items l.tones ≡ lines greys l.size f l.y
