@@ -1,5 +1,5 @@
 -- The gate's search: what the codes with one prefix weigh. Assumes nothing.
-use Rattle.std.proofs.Common.{◌≡◌, ℕ, suc, ◌+◌, ◌-◌, ◌*◌, ◌/◌, ◌^◌, ◌<◌, ◌≤◌, cond, ltb, List, length, get_or, sym, ap, ◌∙◌, subst, ⊎_elim, mul_assoc, div-lt_iff_lt-mul, add-mul, mul-le-mul, mul-one, mul-div_cancel, add-one, arith}
+use Rattle.std.proofs.Common.{◌≡◌, ℕ, suc, ◌+◌, ◌-◌, ◌*◌, ◌/◌, ◌^◌, ◌<◌, ◌≤◌, cond, ltb, List, length, get_or, sym, ap, ◌∙◌, subst, ⊎_elim, mul_assoc, div-lt_iff_lt-mul, add-mul, mul-one, mul-div_cancel, add-one, arith}
 use Rattle.std.proofs.lemmas.Bool.{cases_lt}
 use Rattle.std.proofs.lemmas.Bool.Decides.{nat_tests}
 use Rattle.std.proofs.lemmas.Nat.{pow_pos}
@@ -24,11 +24,7 @@ half k p h =
 pub half_next : (k p : ℕ) → 0 < k → (p + 1) * 2 ^ k ≡ (p * 2 + 1 + 1) * 2 ^ (k - 1)
 half_next k p h = let s : (p + 1) * 2 ≡ p * 2 + 1 + 1 = omega arith in half k (p + 1) h ∙ ap (λ x. x * 2 ^ (k - 1)) s
 
--- the prefix is one of the codes
-pub narrowed_small : (w : ℕ → ℕ) (r k p left : ℕ) → Narrowed w r k p left → p + 1 ≤ 33554432
-narrowed_small w r k p left t = omega (arith, mul-le-mul {n₁ = p + 1} {m₁ = 1} {n₂ = p + 1} {m₂ = 2 ^ k} (omega arith) (pow_pos k), mul-one (p + 1), t.3)
-
--- and so are those with the bit 0 next
+-- the codes with the bit 0 next are codes
 pub narrowed_half : (w : ℕ → ℕ) (r k p left : ℕ) → 0 < k → Narrowed w r k p left → (p * 2 + 1) * 2 ^ (k - 1) ≤ 33554432
 narrowed_half w r k p left h t = omega (arith, half_next k p h, t.3, add-mul (p * 2 + 1) 1 (2 ^ (k - 1)))
 
@@ -47,9 +43,6 @@ narrowed_high w r k p left lower h t sum lt =
 -- low is the prefix with the bit 0 after it
 abbrev pub Halved : (ℕ → ℕ) → ℕ → ℕ → ℕ → ℕ → Type 0
 Halved w r k low left = (low / 2 * 2 ≡ low) × (Narrowed w r k (low / 2) left)
-
-pub halved_small : (w : ℕ → ℕ) (r k low left : ℕ) → Halved w r k low left → low ≤ 67108864
-halved_small w r k low left t = omega (arith, t.0, narrowed_small w r k (low / 2) left t.1)
 
 pub halved_half : (w : ℕ → ℕ) (r k low left : ℕ) → 0 < k → Halved w r k low left → (low + 1) * 2 ^ (k - 1) ≤ 33554432
 halved_half w r k low left h t = subst (λ x. (x + 1) * 2 ^ (k - 1) ≤ 33554432) t.0 (narrowed_half w r k (low / 2) left h t.1)

@@ -2,14 +2,11 @@ use Rattle.std.proofs.Common.{◌≡◌, ℕ, ◌+◌, ◌-◌, ◌/◌, length,
 use Rattle.selectors.specs.Bag.{below}
 use Rattle.selectors.specs.Entries.{blank, under, weigh}
 use Rattle.selectors.proofs.Sums.{below_zero, below_more}
-use Rattle.selectors.proofs.Narrowing.{Narrowed, under_all, under_light, halved_half, halved_small, halved_low, halved_high, narrowed_end}
+use Rattle.selectors.proofs.Narrowing.{Narrowed, under_all, under_light, halved_half, halved_low, halved_high, narrowed_end}
 use Rattle.selectors.proofs.gate.narrow.Goals as goal
 
 pub loop-bit-init : goal.loop-bit-init
 loop-bit-init c = (omega arith, (omega (arith, below_zero (weigh c.args.entries.now (length c.args.entries.now))), omega arith, omega arith, omega arith))
-
-pub overflow_mul-low : goal.overflow_mul-low
-overflow_mul-low c = omega (arith, halved_small _ _ _ _ _ c.loop-bit.invariant)
 
 pub loop-entry-init : goal.loop-entry-init
 loop-entry-init c = sym (below_zero _)
@@ -33,12 +30,6 @@ loop-entry-preserved c = lower_more c
 
 pub loop-bit-preserved-then-left-lower : goal.loop-bit-preserved-then-left-lower
 loop-bit-preserved-then-left-lower c = halved_low _ _ _ _ _ c.loop-entry.lower (omega arith) c.loop-bit.invariant (under_all c.args.entries.now (c.loop-bit.bit - 1) c.loop-bit.low c.loop-entry.entry-index c.loop-entry.lower (omega arith) c.loop-entry.invariant) (omega arith)
-
-pub overflow_add-low : goal.overflow_add-low
-overflow_add-low c = omega (arith, halved_small _ _ _ _ _ c.loop-bit.invariant)
-
-pub overflow_mul-low-else-left-lower : goal.overflow_mul-low-else-left-lower
-overflow_mul-low-else-left-lower c = omega (arith, halved_small _ _ _ _ _ c.loop-bit.invariant)
 
 pub loop-bit-preserved : goal.loop-bit-preserved
 loop-bit-preserved c = halved_high _ _ _ _ _ c.loop-entry.lower (omega arith) c.loop-bit.invariant (under_all c.args.entries.now (c.loop-bit.bit - 1) c.loop-bit.low c.loop-entry.entry-index c.loop-entry.lower (omega arith) c.loop-entry.invariant) (omega arith)

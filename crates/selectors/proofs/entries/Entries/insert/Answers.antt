@@ -1,5 +1,6 @@
 use Rattle.std.proofs.Common.{rules, ◌<◌, ◌∙◌, sym, arith, length-set}
 use Rattle.selectors.specs.Entries.{weigh}
+use Rattle.selectors.proofs.Climbing.{rising_inserted}
 use Rattle.selectors.proofs.Keeping.{found_none, tally_inserted}
 use Rattle.selectors.proofs.Puts.{put_full}
 use Rattle.selectors.proofs.Weighing.{inserted_copied, weigh_inserted, weigh_none}
@@ -34,3 +35,11 @@ returns-clause-weights c d =
     let copied = c.copy_within.ensures in
     let ins = inserted_copied s.places c.copy_within.new.self s.count c.args.at e none.0 (omega arith) copied.len copied.by_index.0 copied.by_index.1 in
     weigh_inserted s.places _ s.count c.args.at e d none.0 ins
+
+pub returns-clause-rising : goal.returns-clause-rising
+returns-clause-rising c seat r =
+    let s = c.args.self.now in
+    let copied = c.copy_within.ensures in
+    let none = found_none s.places s.count c.args.entry.code c.args.at (omega arith) c.requires.1 in
+    let ins = inserted_copied s.places c.copy_within.new.self s.count c.args.at c.args.entry none.0 (omega arith) copied.len copied.by_index.0 copied.by_index.1 in
+    rising_inserted s.places _ s.count c.args.at c.args.entry (omega arith) seat ins r
