@@ -3,7 +3,7 @@ use Rattle.std.proofs.Common.{◌≡◌, ℕ, zero, suc, ◌+◌, ◌-◌, ◌*�
 use Rattle.std.proofs.lemmas.List.{length-append}
 use Rattle.std.proofs.lemmas.Bool.{cond-true, lt-ltb}
 use Rattle.planes.specs.declared.size.Size.{Size}
-use Rattle.planes.specs.Sizes.{area, start, cell}
+use Rattle.planes.specs.Sizes.{area, cell}
 use Rattle.recipes.specs.declared.recipe.Stage.{Stage}
 use Rattle.stages.specs.Planes.{picture, line, overwritten}
 use Rattle.stages.specs.Rows.{row_made, row_weights}

@@ -8,7 +8,7 @@ use Rattle.planes.proofs.Cells.{cell_within}
 use Rattle.recipes.specs.declared.recipe.Stage.{Stage}
 use Rattle.tones.specs.Kind.{Kind}
 use Rattle.stages.specs.Planes.{blank, picture, line, overwritten}
-use Rattle.stages.specs.Rows.{last_window}
+use Rattle.stages.specs.Rows.{last_window, row_made, row_weights}
 use Rattle.stages.specs.Stages.{Picture, bag, cleaned}
 use Rattle.stages.proofs.Pictures.{SameOnCard, bag_same, cleaned_same}
 
@@ -72,40 +72,47 @@ module _ {T R : Type 0} (K : Kind T R) where
   overwritten_same size from i m new h l x y p q =
       ap K.counted (overwritten_before m new i (from + cell size x y) (blank K) (omega (arith, h, cell_within size x y p q)) l)
 
-  -- one pixel more of a row
-  pub row_step : (size : Size) (s : Stage) (from into y left x : ℕ) (m now next : List R) → from + area size ≤ into → into + area size ≤ length m → y < size.height → left ≤ x → x < size.width → now ≡ overwritten m (into + cell size left y) (line K (λ u v. cleaned K size s (picture K size from m) u v) y left (x - left)) → next ≡ set now (into + cell size x y) (K.row (cleaned K size s (picture K size from now) x y)) → next ≡ overwritten m (into + cell size left y) (line K (λ u v. cleaned K size s (picture K size from m) u v) y left (x + 1 - left))
-  row_step size s from into y left x m now next apart room down from_left across old new =
+  -- a row of which nothing is made yet
+  pub row_start : (size : Size) (s : Stage) (from into y left : ℕ) (m : List R) → m ≡ row_made K size s from m y left left into
+  row_start size s from into y left m =
       let f : Picture T = λ u v. cleaned K size s (picture K size from m) u v in
       let i = into + cell size left y in
-      let n = x - left in
-      let l = line K f y left n in
-      let long : length l ≡ n = line_length f y left n in
-      let within = cell_within size x y across down in
-      let at : into + cell size x y ≡ i + length l = omega (arith, long, from_left) in
-      let fit : i + length l < length m = omega (arith, at, within, room) in
-      let pictures : SameOnCard size (picture K size from now) (picture K size from m) = subst (λ w. SameOnCard size (picture K size from w) (picture K size from m)) (sym old) (overwritten_same size from i m l (omega (arith, apart)) (omega (arith, fit))) in
-      let tone : cleaned K size s (picture K size from now) x y ≡ f x y = cleaned_same K size s (picture K size from now) (picture K size from m) pictures x y in
-      let col : x ≡ left + n = omega (arith, from_left) in
-      let end : suc n ≡ x + 1 - left = omega (arith, from_left) in
-      new
-      ∙ ap (λ t. set now (into + cell size x y) (K.row t)) tone
-      ∙ ap (λ w. set w (into + cell size x y) (K.row (f x y))) old
-      ∙ ap (λ k. set (overwritten m i l) k (K.row (f x y))) at
-      ∙ overwritten_more m l i (K.row (f x y)) fit
-      ∙ ap (λ u. overwritten m i (l ++ K.row (f u y) ∷ [])) col
-      ∙ ap (overwritten m i) (sym (line_more f y left n))
-      ∙ ap (λ k. overwritten m i (line K f y left k)) end
-
-  -- a row of which nothing is made yet
-  pub row_start : (f : Picture T) (y left i : ℕ) (m : List R) → m ≡ overwritten m i (line K f y left (left - left))
-  row_start f y left i m =
       let e : left - left ≡ 0 = omega arith in
       sym (ap (λ n. overwritten m i (line K f y left n)) e ∙ ap (overwritten m i) (line_none f y left) ∙ overwritten_none m i)
 
-  -- the window of the last pixel made
-  pub row_window : (size : Size) (s : Stage) (from into y left x : ℕ) (m now new : List R) (before : ℕ → ℕ) (c v : ℕ) → from + area size ≤ into → into + area size ≤ length m → y < size.height → left ≤ x → x < size.width → now ≡ overwritten m (into + cell size left y) new → v ≡ bag K size s (picture K size from now) x y c → v ≡ last_window (λ u. bag K size s (picture K size from m) u y) before left (x + 1) c
-  row_window size s from into y left x m now new before c v apart room down from_left across old is =
-      let i = into + cell size left y in
-      let fit : i ≤ length m = omega (arith, cell_within size x y across down, from_left, room) in
-      let pictures : SameOnCard size (picture K size from now) (picture K size from m) = subst (λ w. SameOnCard size (picture K size from w) (picture K size from m)) (sym old) (overwritten_same size from i m new (omega (arith, apart)) fit) in
-      is ∙ bag_same K size s (picture K size from now) (picture K size from m) pictures x y c ∙ last_window_more (λ u. bag K size s (picture K size from m) u y) before left x c from_left
+  pub window_start : (size : Size) (s : Stage) (from y left : ℕ) (m : List R) (before : ℕ → ℕ) (c : ℕ) → before c ≡ row_weights K size s from m y left left before c
+  window_start size s from y left m before c = last_window_none (λ u. bag K size s (picture K size from m) u y) before left c
+
+  -- a row made as far as the column x, in another plane than the one that is read
+  module _ (size : Size) (s : Stage) (from into : ℕ) (m : List R) (apart : from + area size ≤ into) (room : into + area size ≤ length m) (y : ℕ) (down : y < size.height) (left x : ℕ) (from_left : left ≤ x) (across : x < size.width) (now : List R) (so_far : now ≡ row_made K size s from m y left x into) where
+    made_same : SameOnCard size (picture K size from now) (picture K size from m)
+    made_same =
+        let l = line K (λ u v. cleaned K size s (picture K size from m) u v) y left (x - left) in
+        let fit : into + cell size left y ≤ length m = omega (arith, cell_within size x y across down, from_left, room) in
+        subst (λ w. SameOnCard size (picture K size from w) (picture K size from m)) (sym so_far) (overwritten_same size from (into + cell size left y) m l (omega (arith, apart)) fit)
+
+    -- one pixel more
+    pub row_step : (next : List R) → next ≡ set now (into + cell size x y) (K.row (cleaned K size s (picture K size from now) x y)) → next ≡ row_made K size s from m y left (x + 1) into
+    row_step next new =
+        let f : Picture T = λ u v. cleaned K size s (picture K size from m) u v in
+        let i = into + cell size left y in
+        let n = x - left in
+        let l = line K f y left n in
+        let long : length l ≡ n = line_length f y left n in
+        let at : into + cell size x y ≡ i + length l = omega (arith, long, from_left) in
+        let fit : i + length l < length m = omega (arith, at, cell_within size x y across down, room) in
+        let tone : cleaned K size s (picture K size from now) x y ≡ f x y = cleaned_same K size s (picture K size from now) (picture K size from m) made_same x y in
+        let col : x ≡ left + n = omega (arith, from_left) in
+        let end : suc n ≡ x + 1 - left = omega (arith, from_left) in
+        new
+        ∙ ap (λ t. set now (into + cell size x y) (K.row t)) tone
+        ∙ ap (λ w. set w (into + cell size x y) (K.row (f x y))) so_far
+        ∙ ap (λ k. set (overwritten m i l) k (K.row (f x y))) at
+        ∙ overwritten_more m l i (K.row (f x y)) fit
+        ∙ ap (λ u. overwritten m i (l ++ K.row (f u y) ∷ [])) col
+        ∙ ap (overwritten m i) (sym (line_more f y left n))
+        ∙ ap (λ k. overwritten m i (line K f y left k)) end
+
+    -- the window of that pixel
+    pub row_window : (before : ℕ → ℕ) (c : ℕ) → bag K size s (picture K size from now) x y c ≡ row_weights K size s from m y left (x + 1) before c
+    row_window before c = bag_same K size s (picture K size from now) (picture K size from m) made_same x y c ∙ last_window_more (λ u. bag K size s (picture K size from m) u y) before left x c from_left

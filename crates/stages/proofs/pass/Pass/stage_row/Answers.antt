@@ -1,8 +1,5 @@
-use Rattle.std.proofs.Common.{◌+◌, ◌<◌, refl, ◌∙◌, arith}
-use Rattle.planes.specs.Sizes.{cell}
-use Rattle.stages.specs.Planes.{picture}
-use Rattle.stages.specs.Stages.{bag, cleaned}
-use Rattle.stages.proofs.Lines.{last_window_none, row_start, row_step, row_window}
+use Rattle.std.proofs.Common.{◌<◌, refl, ◌∙◌, arith}
+use Rattle.stages.proofs.Lines.{row_start, window_start, row_step, row_window}
 use Rattle.stages.proofs.pass.Pass.stage_row.Goals as goal
 
 pub loop-x-init : goal.loop-x-init
@@ -11,12 +8,11 @@ loop-x-init g c =
     let pass = c.args.self.now in
     let size = pass.frame.size in
     let s = pass.window.now.stage in
-    let f = picture k size pass.from c.args.memory.now in
     record {
       in_order = c.requires.order;
       range_kept = refl;
-      memory = row_start k (λ u v. cleaned k size s f u v) c.args.y c.args.left (pass.into + cell size c.args.left c.args.y) c.args.memory.now;
-      weights = λ d. last_window_none (λ u. bag k size s f u c.args.y) (g.S.Selector.weight c.args.selector.now) c.args.left d;
+      memory = row_start k size s pass.from pass.into c.args.y c.args.left c.args.memory.now;
+      weights = window_start k size s pass.from c.args.y c.args.left c.args.memory.now (g.S.Selector.weight c.args.selector.now);
     }
 
 pub loop-x-preserved : goal.loop-x-preserved
@@ -26,8 +22,6 @@ loop-x-preserved g c =
     let size = pass.frame.size in
     let s = pass.window.now.stage in
     let m = c.args.memory.now in
-    let y = c.args.y in
-    let left = c.args.left in
     let x = c.loop-x.x in
     let inv = c.loop-x.invariant in
     let done = c.stage_pixel.ensures in
@@ -35,6 +29,6 @@ loop-x-preserved g c =
     record {
       in_order = done.in_order;
       range_kept = done.range_kept ∙ inv.range_kept;
-      memory = row_step k size s pass.from pass.into y left x m c.loop-x.memory c.stage_pixel.new.memory pass.apart c.requires.room c.requires.row c.loop-x.auto.x across inv.memory done.memory;
-      weights = λ d. row_window k size s pass.from pass.into y left x m c.loop-x.memory _ (g.S.Selector.weight c.args.selector.now) d _ pass.apart c.requires.room c.requires.row c.loop-x.auto.x across inv.memory (done.weights d);
+      memory = row_step k size s pass.from pass.into m pass.apart c.requires.room c.args.y c.requires.row c.args.left x c.loop-x.auto.x across c.loop-x.memory inv.memory c.stage_pixel.new.memory done.memory;
+      weights = λ d. done.weights d ∙ row_window k size s pass.from pass.into m pass.apart c.requires.room c.args.y c.requires.row c.args.left x c.loop-x.auto.x across c.loop-x.memory inv.memory (g.S.Selector.weight c.args.selector.now) d;
     }
