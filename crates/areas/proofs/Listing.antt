@@ -1,21 +1,15 @@
 -- The list of the areas, and the array that holds it.
-use Rattle.std.proofs.Common.{◌≡◌, ℕ, ◌-◌, ◌<◌, ◌≤◌, true, List, ◌++◌, length, get_or, take, drop, set, Some, None, sym, ap, ◌∙◌, arith}
-use borrow.Rule.Slice.PartMut.{post_of}
+use Rattle.std.proofs.Common.{◌≡◌, ℕ, ◌+◌, ◌-◌, ◌<◌, ◌≤◌, true, List, ◌++◌, length, get_or, take, drop, set, Some, None, sym, ap, ◌∙◌, arith}
 use lib.Seq.{take-set-lt}
-use Rattle.std.proofs.lemmas.List.{length-take-le, get_or-take, length-append, length-drop, length-set, take_at}
-use Rattle.planes.specs.Sizes.{Limits}
+use Rattle.std.proofs.lemmas.List.{length-take-le, get_or-take, length-set, get_or_default}
 use Rattle.recipes.specs.declared.recipe.Stage.{Stage}
 use Rattle.areas.specs.declared.areas.Areas.{Areas}
 use Rattle.areas.specs.declared.rect.Rect.{Rect}
-use Rattle.areas.specs.Rects.{Fits, lessened}
-use Rattle.areas.specs.Areas.{Area, area_fits, on_card, spread, dropped, lowest}
+use Rattle.areas.specs.Rects.{Fits, widened, joined, lessened}
+use Rattle.areas.specs.Areas.{on_card, spread, dropped, lowest}
 use Rattle.areas.specs.Listed.{listed}
-use Rattle.areas.proofs.Fitting.{fits_true, on_card_at, on_card_spread, on_card_dropped}
-use Rattle.areas.proofs.Walks.{length_spread, Lowest, lowest_is}
-
--- the size is in its limits
-pub sized : (a : Areas) → Limits a.size
-sized a = record { wide = a.wide; not_too_wide = a.narrow; high = a.high; not_too_high = a.low }
+use Rattle.areas.proofs.Fitting.{fits_true, fits_from, on_card_at, on_card_set, on_card_dropped}
+use Rattle.areas.proofs.Walks.{spread_more, spread_fits, Lowest, lowest_is}
 
 pub length_listed : (a : Areas) → length (listed a) ≡ a.count
 length_listed a = length-take-le a.count a.areas (omega (arith, a.long, a.few))
@@ -23,25 +17,31 @@ length_listed a = length-take-le a.count a.areas (omega (arith, a.long, a.few))
 pub listed_at : (a : Areas) (i : ℕ) → i < a.count → get_or (listed a) i None ≡ get_or a.areas i None
 listed_at a i h = get_or-take a.count a.areas i None h
 
-pub listed_fits : (a : Areas) (i : ℕ) → i < a.count → area_fits a.size (get_or a.areas i None) ≡ true
-listed_fits a i h = rw (sym (listed_at a i h)) (on_card_at a.size (listed a) i a.sound)
+-- stage k's new area is stored, and the spread goes on from there
+module _ (a : Areas) (ss : List Stage) (r w n : Rect) (s : Stage) (i k : ℕ) (at : ◌≡◌ {A = ℕ × Stage} (i, s) (0 + k, get_or ss k s)) (within : k < a.count) (more : k < length ss) (wide : w ≡ widened a.frame.size s r)
+    (new : n ≡ joined w (get_or a.areas i None)) (f : Fits a.frame.size r) where
+  place : i ≡ k
+  place = omega (arith, ap (λ p. p.0) at)
 
--- the areas after a spread, put back before the rest of the array
-module _ (a : Areas) (ss : List Stage) (r : Rect) (fresh : List Area) (is : fresh ≡ spread a.size ss r (take (a.count - 0) a.areas)) where
-  fresh_is : fresh ≡ spread a.size ss r (listed a)
-  fresh_is = let z : a.count - 0 ≡ a.count = omega arith in is ∙ ap (λ n. spread a.size ss r (take n a.areas)) z
+  here : (t : Stage) → n ≡ joined (widened a.frame.size (get_or ss k t) r) (get_or (listed a) k None)
+  here t = rw (get_or_default ss k t s more, ← ap (λ p. p.1) at, listed_at a k within, ← place, ← wide) new
 
-  fresh_long : length fresh ≡ a.count
-  fresh_long = ap length fresh_is ∙ length_spread a.size ss r (listed a) ∙ length_listed a
+  pub stored_fits : Fits a.frame.size n
+  stored_fits = spread_fits a.frame.size ss r n (get_or (listed a) k None) k more f (on_card_at a.frame.size (listed a) k a.sound) here
 
-  pub spread_long : length (fresh ++ post_of 0 (a.count - 0) a.areas) ≡ 8
-  spread_long = length-append fresh (drop (a.count - 0) a.areas) ∙ omega (arith, length-drop (a.count - 0) a.areas, fresh_long, a.long, a.few)
+  stored_listed : take a.count (set a.areas i (Some n)) ≡ set (listed a) k (Some n)
+  stored_listed = rw place (take-set-lt a.count a.areas k (Some n) within)
 
-  pub spread_listed : take a.count (fresh ++ post_of 0 (a.count - 0) a.areas) ≡ spread a.size ss r (listed a)
-  spread_listed = take_at fresh (post_of 0 (a.count - 0) a.areas) a.count fresh_long ∙ fresh_is
+  pub stored_long : length (set a.areas i (Some n)) ≡ 8
+  stored_long = length-set a.areas i (Some n) ∙ a.long
 
-  pub spread_sound : Fits a.size r → on_card a.size (take a.count (fresh ++ post_of 0 (a.count - 0) a.areas)) ≡ true
-  spread_sound f = rw spread_listed (on_card_spread a.size ss r (listed a) f a.sound)
+  pub stored_sound : on_card a.frame.size (take a.count (set a.areas i (Some n))) ≡ true
+  stored_sound = rw stored_listed (on_card_set a.frame.size (listed a) k (Some n) a.sound (fits_from a.frame.size n stored_fits))
+
+  pub stored_more :
+      take (k + 1) (take a.count (set a.areas i (Some n))) ++ spread a.frame.size (drop (k + 1) ss) n (drop (k + 1) (take a.count (set a.areas i (Some n))))
+      ≡ take k (listed a) ++ spread a.frame.size (drop k ss) r (drop k (listed a))
+  stored_more = rw stored_listed (spread_more a.frame.size ss r n (listed a) k (omega (arith, length_listed a)) more here)
 
 -- the lowest stage's area, less its top row
 module _ (a : Areas) (k : ℕ) (r : Rect) (is : lowest (listed a) ≡ Some (k, r)) where
@@ -54,8 +54,8 @@ module _ (a : Areas) (k : ℕ) (r : Rect) (is : lowest (listed a) ≡ Some (k, r
   pub drop_within : k - 1 < a.count
   drop_within = omega (arith, stands.stands, length_listed a)
 
-  pub drop_fits : Fits a.size r
-  drop_fits = fits_true a.size r (rw stands.area at (on_card_at a.size (listed a) (k - 1) a.sound))
+  pub drop_fits : Fits a.frame.size r
+  drop_fits = fits_true a.frame.size r (rw stands.area at (on_card_at a.frame.size (listed a) (k - 1) a.sound))
 
   pub drop_listed : take a.count (set a.areas (k - 1) (lessened r)) ≡ dropped (listed a)
   drop_listed = take-set-lt a.count a.areas (k - 1) (lessened r) drop_within ∙ sym stands.less
@@ -63,5 +63,5 @@ module _ (a : Areas) (k : ℕ) (r : Rect) (is : lowest (listed a) ≡ Some (k, r
   pub drop_long : length (set a.areas (k - 1) (lessened r)) ≡ 8
   drop_long = length-set a.areas (k - 1) (lessened r) ∙ a.long
 
-  pub drop_sound : on_card a.size (take a.count (set a.areas (k - 1) (lessened r))) ≡ true
-  drop_sound = rw drop_listed (on_card_dropped a.size (listed a) a.sound)
+  pub drop_sound : on_card a.frame.size (take a.count (set a.areas (k - 1) (lessened r))) ≡ true
+  drop_sound = rw drop_listed (on_card_dropped a.frame.size (listed a) a.sound)

@@ -1,12 +1,15 @@
 -- Going through the areas, stage by stage.
-use Rattle.std.proofs.Common.{◌≡◌, ℕ, zero, suc, ◌+◌, ◌-◌, ◌<◌, ◌≤◌, min, true, List, [], ◌∷◌, ◌++◌, map, length, get_or, take, drop, set, replicate, Some, None, sym, refl, ap, subst, inl, inr, add-one, arith}
+use Rattle.std.proofs.Common.{◌≡◌, ℕ, zero, suc, ◌+◌, ◌-◌, ◌*◌, ◌<◌, ◌≤◌, min, true, List, [], ◌∷◌, ◌++◌, map, length, get_or, take, drop, set, replicate, Some, None, Option, sym, refl, ap, subst, inl, inr, add-one, arith}
 use Rattle.std.proofs.lemmas.List.{drop_all, take_all, append-nil, take-append-drop}
-use Rattle.std.proofs.lemmas.Bool.{cases_lt}
+use Rattle.std.proofs.lemmas.Bool.{and_parts, cases_lt}
+use Rattle.std.proofs.lemmas.List.Sums.{sum_by-cons}
+use Rattle.std.specs.List.{slice_get, sum_by, enumerate_from}
+use Rattle.std.specs.Option.{unwrap_or}
 use Rattle.planes.specs.declared.size.Size.{Size}
 use Rattle.recipes.specs.declared.recipe.Stage.{Stage}
 use Rattle.areas.specs.declared.rect.Rect.{Rect}
 use Rattle.areas.specs.Rects.{Fits, widened, joined, lessened}
-use Rattle.areas.specs.Areas.{Area, area_fits, spread, dropped, rows, stale_rows, numbered, lowest_from, last_area}
+use Rattle.areas.specs.Areas.{Area, area_fits, on_card, FirstThere, spread, dropped, rows, stale_rows, lowest, lowest_from, last_area}
 use Rattle.areas.proofs.Fitting.{fits_true, joined_fits, widened_fits}
 
 -- the first places of an array with one value in all
@@ -35,29 +38,24 @@ spread_fits size (t ∷ ss) r n a i p f e g =
     let s = get_or (t ∷ ss) i t in
     subst (Fits size) (sym (g t)) (joined_fits size (widened size s r) a (widened_fits size s r f) e)
 
--- a stage without an area
-lowest_suc : (bs : List Area) (i j k : ℕ) → i < length bs → numbered k (get_or bs i None) ≡ None → lowest_from j (drop i bs) ≡ lowest_from (j + 1) (drop (suc i) bs)
+-- the lowest stage with an area by its place
+nothing_lowest : (bs : List Area) (j : ℕ) → ((k : ℕ) → k < length bs → slice_get bs k ≡ Some None) → lowest_from j bs ≡ None
 unfolding lowest_from
-lowest_suc [] i j k p e = absurd (omega arith)
-lowest_suc (None ∷ bs) zero j k p e = refl
-lowest_suc (Some r ∷ bs) zero j k p e = let z : ◌≡◌ {A = ℕ} 0 1 = cc in absurd (omega arith)
-lowest_suc (a ∷ bs) (suc i) j k p e = lowest_suc bs i j k (omega arith) e
+nothing_lowest [] j h = refl
+nothing_lowest (None ∷ bs) j h = nothing_lowest bs (j + 1) (λ k l. h (suc k) (omega arith))
+nothing_lowest (Some r ∷ bs) j h = let z = h 0 (omega arith) in absurd (grind arith)
 
-pub lowest_more : (bs : List Area) (i j : ℕ) → i < length bs → numbered j (get_or bs i None) ≡ None → lowest_from (j + 1) (drop (i + 1) bs) ≡ lowest_from j (drop i bs)
-lowest_more bs i j p e = rw (add-one i) (sym (lowest_suc bs i j j p e))
-
--- none is left
-pub lowest_end : (bs : List Area) (i j : ℕ) → length bs ≤ i → lowest_from j (drop i bs) ≡ None
+first_lowest : (bs : List Area) (i j : ℕ) (r : Rect) → slice_get bs i ≡ Some (Some r) → ((k : ℕ) → k < i → slice_get bs k ≡ Some None) → lowest_from j bs ≡ Some (j + i, r)
 unfolding lowest_from
-lowest_end bs i j h = rw (drop_all i bs h)
+first_lowest [] i j r e h = absurd (grind arith)
+first_lowest (None ∷ bs) zero j r e h = absurd (grind arith)
+first_lowest (None ∷ bs) (suc i) j r e h = let n : j + suc i ≡ j + 1 + i = omega arith in rw n (first_lowest bs i (j + 1) r e (λ k l. h (suc k) (omega arith)))
+first_lowest (Some q ∷ bs) zero j r e h = let n : j + 0 ≡ j = omega arith in rw n cc
+first_lowest (Some q ∷ bs) (suc i) j r e h = let z = h 0 (omega arith) in absurd (grind arith)
 
--- a stage with an area
-pub lowest_here : (bs : List Area) (i j : ℕ) (q : ℕ × Rect) → i < length bs → numbered j (get_or bs i None) ≡ Some q → lowest_from j (drop i bs) ≡ Some q
-unfolding lowest_from
-lowest_here [] i j q p e = absurd (omega arith)
-lowest_here (None ∷ bs) zero j q p e = let z : ◌≡◌ {A = ℕ} 0 1 = cc in absurd (omega arith)
-lowest_here (Some r ∷ bs) zero j q p e = e
-lowest_here (a ∷ bs) (suc i) j q p e = lowest_here bs i j q (omega arith) e
+pub lowest_first : (bs : List Area) (o : Option (ℕ × Rect)) → FirstThere bs o → o ≡ lowest bs
+lowest_first bs None h = sym (nothing_lowest bs 1 h)
+lowest_first bs (Some p) h = let n : 1 + (p.0 - 1) ≡ p.0 = omega (arith, h.0) in sym (rw n at (first_lowest bs (p.0 - 1) 1 p.1 h.1 h.2))
 
 -- where the lowest stage stands, and what is left of its area
 pub record Lowest (j : ℕ) (bs : List Area) (k : ℕ) (r : Rect) : Type 0 where
@@ -101,35 +99,31 @@ lowest_nothing j [] e = refl
 lowest_nothing j (None ∷ bs) e = ap (λ t. None ∷ t) (lowest_nothing (j + 1) bs e)
 lowest_nothing j (Some q ∷ bs) e = let z : ◌≡◌ {A = ℕ} 0 1 = cc in absurd (omega arith)
 
--- the rows of one more area
-rows_suc : (bs : List Area) (i : ℕ) → i < length bs → stale_rows (take (suc i) bs) ≡ stale_rows (take i bs) + rows (get_or bs i None)
+-- the rows of all areas as a sum
+pub rows_summed : (bs : List Area) → stale_rows bs ≡ sum_by rows bs
 unfolding stale_rows
-rows_suc [] i p = absurd (omega arith)
-rows_suc (a ∷ bs) zero p = omega arith
-rows_suc (a ∷ bs) (suc i) p = omega (arith, rows_suc bs i (omega arith))
-
-pub rows_more : (bs : List Area) (i : ℕ) → i < length bs → stale_rows (take (i + 1) bs) ≡ stale_rows (take i bs) + rows (get_or bs i None)
-rows_more bs i p = rw add-one (rows_suc bs i p)
+rows_summed [] = refl
+rows_summed (a ∷ bs) = omega (arith, rows_summed bs, sum_by-cons rows a bs)
 
 -- an area on the card has as many rows as the card at most
 pub rows_most : (size : Size) (a : Area) → area_fits size a ≡ true → rows a ≤ size.height
 rows_most size None e = omega arith
 rows_most size (Some r) e = let f = fits_true size r e in omega arith
 
--- the last area by its place
-pub last_at : (bs : List Area) (n : ℕ) → length bs ≡ suc n → get_or bs n None ≡ last_area bs
-unfolding last_area
-last_at [] n e = absurd (omega arith)
-last_at (a ∷ []) zero e = refl
-last_at (a ∷ []) (suc n) e = absurd (omega arith)
-last_at (a ∷ (b ∷ bs)) zero e = absurd (omega arith)
-last_at (a ∷ (b ∷ bs)) (suc n) e = last_at (b ∷ bs) n (omega arith)
+-- there are as many as rows and areas allow
+pub rows_bounded : (size : Size) (bs : List Area) → size.height ≤ 256 → on_card size bs ≡ true → stale_rows bs ≤ 256 * length bs
+unfolding on_card stale_rows
+rows_bounded size [] h e = omega arith
+rows_bounded size (a ∷ bs) h e =
+    let p = and_parts (area_fits size a) (on_card size bs) e in
+    omega (arith, rows_most size a p.0, rows_bounded size bs h p.1)
 
--- without areas there is none
-pub last_none : (bs : List Area) → length bs ≡ 0 → last_area bs ≡ None
+-- the last area as the last of the list
+pub last_read : (bs : List Area) → last_area bs ≡ unwrap_or (slice_get bs (length bs - 1)) None
 unfolding last_area
-last_none [] e = refl
-last_none (a ∷ bs) e = absurd (omega arith)
+last_read [] = refl
+last_read (a ∷ []) = refl
+last_read (a ∷ (b ∷ bs)) = let n : length (a ∷ (b ∷ bs)) - 1 ≡ suc (length (b ∷ bs) - 1) = omega arith in rw n (last_read (b ∷ bs))
 
 -- past the last stage or the last area nothing changes
 spread_nil : (size : Size) (ss : List Stage) (r : Rect) → spread size ss r [] ≡ []
@@ -160,3 +154,18 @@ unfolding dropped
 length_dropped [] = refl
 length_dropped (None ∷ bs) = ap suc (length_dropped bs)
 length_dropped (Some r ∷ bs) = refl
+
+-- the stages with their numbers, counted from j, as far as there are areas
+pub numbered_at : (ss : List Stage) (n j k : ℕ) (d : ℕ × Stage) → k < length (take n (enumerate_from j ss)) → (k < n) × (k < length ss) × (get_or (take n (enumerate_from j ss)) k d ≡ (j + k, get_or ss k d.1))
+numbered_at ss zero j k d h = absurd (omega arith)
+numbered_at [] (suc n) j k d h = absurd (omega arith)
+numbered_at (s ∷ ss) (suc n) j zero d h = let e : j + 0 ≡ j = omega arith in (omega arith, omega arith, rw e)
+numbered_at (s ∷ ss) (suc n) j (suc k) d h =
+    let r = numbered_at ss n (j + 1) k d (omega arith) in
+    let e : j + suc k ≡ j + 1 + k = omega arith in
+    (omega (arith, r.0), omega (arith, r.1), rw e r.2)
+
+pub numbered_all : (ss : List Stage) (n j : ℕ) → length (take n (enumerate_from j ss)) ≡ min n (length ss)
+numbered_all ss zero j = omega arith
+numbered_all [] (suc n) j = omega arith
+numbered_all (s ∷ ss) (suc n) j = omega (arith, numbered_all ss n (j + 1))

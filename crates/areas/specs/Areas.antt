@@ -1,5 +1,7 @@
 -- Stale areas: a rectangle or nothing for each stage, the first stage's first. Assumes nothing.
-use Rattle.std.specs.Prelude.{ℕ, ◌+◌, ◌-◌, ◌<◌, ◌≤◌, max, Bool, true, cond, ◌&&◌, List, [], ◌∷◌, map, Some, None, Option, nat_le, nat_lt}
+use Rattle.std.specs.Prelude.{◌≡◌, ℕ, ◌+◌, ◌-◌, ◌<◌, ◌≤◌, max, Bool, true, cond, ◌&&◌, List, [], ◌∷◌, length, map, Some, None, Option, nat_le, nat_lt}
+use Rattle.std.specs.List.{slice_get}
+use Rattle.std.specs.Option.{MatchOption}
 use Rattle.planes.specs.declared.size.Size.{Size}
 use Rattle.recipes.specs.declared.recipe.Stage.{Stage}
 use Rattle.areas.specs.declared.rect.Rect.{Rect}
@@ -37,11 +39,6 @@ spread size [] r rest = rest
 spread size (s ∷ ss) r [] = []
 spread size (s ∷ ss) r (a ∷ rest) = Some (joined (widened size s r) a) ∷ spread size ss (joined (widened size s r) a) rest
 
--- a stage's number with its area, if it has one
-abbrev pub numbered : ℕ → Area → Option (ℕ × Rect)
-numbered j None = None
-numbered j (Some r) = Some (j, r)
-
 -- the lowest stage with an area, counted from j, and that area
 unfoldable pub lowest_from : ℕ → List Area → Option (ℕ × Rect)
 lowest_from j [] = None
@@ -50,6 +47,10 @@ lowest_from j (Some r ∷ rest) = Some (j, r)
 
 abbrev pub lowest : List Area → Option (ℕ × Rect)
 lowest areas = lowest_from 1 areas
+
+-- nothing where no stage has an area, else the first stage that has one, counted from 1
+abbrev pub FirstThere : List Area → Option (ℕ × Rect) → Type 0
+FirstThere bs o = MatchOption o ((k : ℕ) → k < length bs → slice_get bs k ≡ Some None) (λ p. (1 ≤ p.0) × (slice_get bs (p.0 - 1) ≡ Some (Some p.1)) × ((k : ℕ) → k < p.0 - 1 → slice_get bs k ≡ Some None))
 
 -- a stage with the top row of its area
 abbrev pub top_row : Option (ℕ × Rect) → Option (ℕ × ℕ)

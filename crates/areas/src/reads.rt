@@ -1,35 +1,37 @@
 //! What the stale areas say.
 
-ghost use Rattle.areas.specs.Areas.{lowest, numbered, top_row, next_of, stale_rows, last_area, met, FirstMet};
+ghost use Rattle.areas.specs.Areas.{FirstThere, lowest, next_of, rows, stale_rows, last_area, met, FirstMet};
 ghost use Rattle.areas.specs.Arising.{Arising};
 ghost use Rattle.areas.specs.Listed.{listed};
 ghost use Rattle.areas.specs.Meanings.{NextIs, some_stale};
-ghost use Rattle.std.specs.Prelude.{◌≡◌, ℕ, ◌+◌, ◌<◌, ◌≤◌, nat_lt};
+ghost use Rattle.std.specs.List.{sum_by};
+ghost use Rattle.std.specs.Prelude.{◌≡◌, ◌<◌, ◌≤◌, ◌^◌, nat_lt};
 
 use crate::areas::Areas;
-use crate::rect;
 use crate::rect::Rect;
+use planes::frame::Frame;
 use planes::size::Size;
 
 impl Areas {
+    /// The size of the card, within its limits.
+    pub fn frame(&self) -> Frame
+        ensures { result ≡ self.now.frame }
+    {
+        self.frame
+    }
+
     /// The size of the card.
     pub fn size(&self) -> Size
-        ensures { result ≡ self.now.size }
+        ensures { result ≡ self.now.frame.size }
     {
-        self.size
+        self.frame.size
     }
 
     /// The lowest stage with an area, counted from 1, and that area.
     pub fn lowest(&self) -> Option<(usize, Rect)>
         ensures answer { result ≡ lowest (listed self.now) }
     {
-        for i in 0..self.count {
-            let found = numbered(i, self.areas[i]);
-            if let Some(lowest) = found {
-                return Some(lowest);
-            }
-        }
-        None
+        first_there(self.listed())
     }
 
     /// What is redone next: the lowest stage with an area, counted from 1, and that area's top row.
@@ -37,7 +39,7 @@ impl Areas {
         ensures answer { result ≡ next_of (listed self.now) }
         ensures meaning { NextIs (listed self.now) result }
     {
-        top_row(self.lowest())
+        self.lowest().map(|(stage, area)| (stage, area.top))
     }
 
     /// The rows of all areas together.
@@ -45,14 +47,9 @@ impl Areas {
         ensures answer { result ≡ stale_rows (listed self.now) }
         ensures bound { result ≤ 2048 }
         ensures some { nat_lt 0 result ≡ some_stale (listed self.now) }
-        ensures arising { Arising self.now.size (listed self.now) }
+        ensures arising { Arising self.now.frame.size (listed self.now) }
     {
-        let areas = self.listed();
-        let mut left = 0;
-        for i in 0..areas.len() {
-            left += rect::rows(areas[i]);
-        }
-        left
+        rows_of(self.listed())
     }
 
     /// The first column of a piece of row y, n wide from column x on, that the last stage's area holds.
@@ -60,37 +57,37 @@ impl Areas {
         ensures answer { result ≡ met (last_area (listed self.now)) x y n }
         ensures meaning { FirstMet (last_area (listed self.now)) x y n result }
     {
-        if self.count == 0 {
+        let Some(Some(area)) = self.listed().last() else {
             return None;
-        }
-        rect::met(self.areas[self.count - 1], x, y, n)
+        };
+        area.met(x, y, n)
     }
 
     /// The areas, one a stage.
     fn listed(&self) -> &[Option<Rect>]
         ensures { result.now ≡ listed self.now }
     {
-        &self.areas[0..self.count]
+        &self.areas[..self.count]
     }
 }
 
-/// The number of stage i, counted from 0, with its area, if it has one.
-fn numbered(i: usize, area: Option<Rect>) -> Option<(usize, Rect)>
-    requires { i < 8 }
-    ensures { result ≡ numbered (i + 1) area }
+/// The first of some areas that is there, with its number, counted from 1.
+fn first_there(areas: &[Option<Rect>]) -> Option<(usize, Rect)>
+    ensures { FirstThere areas.now result }
 {
-    match area {
-        None => None,
-        Some(rect) => Some((i + 1, rect)),
-    }
+    areas
+        .iter()
+        .enumerate()
+        .find_map(|(i, area)| area.map(|rect| (i + 1, rect)))
 }
 
-/// A stage with the top row of its area.
-fn top_row(lowest: Option<(usize, Rect)>) -> Option<(usize, usize)>
-    ensures { result ≡ top_row lowest }
+/// The rows of some areas together.
+fn rows_of(areas: &[Option<Rect>]) -> usize
+    requires { sum_by rows areas.now < 2 ^ 64 }
+    ensures { result ≡ sum_by rows areas.now }
 {
-    match lowest {
-        None => None,
-        Some((stage, area)) => Some((stage, area.top)),
-    }
+    areas
+        .iter()
+        .map(|area| area.map_or(0, |rect| rect.rows()))
+        .sum()
 }

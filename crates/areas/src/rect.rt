@@ -3,14 +3,13 @@
 ghost use Rattle.areas.specs.Rects.{Holds, Fits, rect_on, whole, widened, hull, joined, lessened, Near, Exactly, Smallest};
 ghost use Rattle.areas.specs.Areas.{Stale, area_fits, rows, met};
 ghost use Rattle.planes.specs.declared.size.Size.{Size};
-ghost use Rattle.planes.specs.Sizes.{Limits};
 ghost use Rattle.std.specs.Prelude.{◌≡◌, ℕ, ◌+◌, ◌-◌, ◌<◌, ◌≤◌, true, ◌&&◌, ◌⊎◌, IfSome, Some, nat_le, nat_lt};
 
 use planes::size::Size;
 use recipes::recipe::Stage;
 
 /// The columns from `left` to before `right`, in the rows from `top` to before `bottom`.
-#[derive(Clone, Copy)]
+#[derive(Clone, Copy, PartialEq, Eq, Debug)]
 pub struct Rect {
     pub left: usize,
     pub top: usize,
@@ -50,12 +49,17 @@ impl Rect {
 
     /// The rectangle, widened by a stage's reach on each side and cut to the card.
     pub fn widened(self, size: Size, stage: &Stage) -> Rect
-        requires size { Limits size }
-        requires fits { Fits size self }
         ensures answer { result ≡ widened size stage.now self }
-        ensures exact { Exactly result (Near size stage.now (Holds self)) }
+        ensures exact { Fits size self → Exactly result (Near size stage.now (Holds self)) }
     {
-        grown(self, size, stage)
+        let reach = stage.element.reach();
+        let (x, y) = (reach.x as usize, reach.y as usize);
+        Rect {
+            left: self.left.saturating_sub(x),
+            top: self.top.saturating_sub(y),
+            right: self.right.saturating_add(x).min(size.width),
+            bottom: self.bottom.saturating_add(y).min(size.height),
+        }
     }
 
     /// The smallest rectangle that holds this one and the old area.
@@ -63,9 +67,18 @@ impl Rect {
         ensures answer { result ≡ joined self old }
         ensures smallest { (size : Size) → Fits size self → area_fits size old ≡ true → Smallest result (λ x y. Holds self x y ⊎ Stale old x y) }
     {
-        match old {
-            None => self,
-            Some(old) => hull(self, old),
+        old.map_or(self, |old| self.hull(old))
+    }
+
+    /// The rectangle of the outer sides of this one and another.
+    fn hull(self, other: Rect) -> Rect
+        ensures { result ≡ hull self other }
+    {
+        Rect {
+            left: self.left.min(other.left),
+            top: self.top.min(other.top),
+            right: self.right.max(other.right),
+            bottom: self.bottom.max(other.bottom),
         }
     }
 
@@ -74,16 +87,24 @@ impl Rect {
         requires { self.top < self.bottom }
         ensures { result ≡ lessened self }
     {
-        if self.top + 1 < self.bottom {
-            Some(Rect {
-                left: self.left,
-                top: self.top + 1,
-                right: self.right,
-                bottom: self.bottom,
-            })
-        } else {
-            None
-        }
+        let top = self.top + 1;
+        (top < self.bottom).then_some(Rect { top, ..self })
+    }
+
+    /// The number of rows.
+    pub(crate) fn rows(self) -> usize
+        ensures { result ≡ rows (Some self) }
+    {
+        self.bottom.saturating_sub(self.top)
+    }
+
+    /// The first column of a piece of row y, n wide from column x on, that the rectangle holds.
+    pub(crate) fn met(self, x: usize, y: usize, n: usize) -> Option<usize>
+        ensures { result ≡ met (Some self) x y n }
+    {
+        let first = x.max(self.left);
+        let meets = self.top <= y && y < self.bottom && first < self.right && first - x < n;
+        meets.then_some(first)
     }
 }
 
@@ -92,58 +113,4 @@ fn holds(from: usize, many: usize, end: usize) -> bool
     ensures { result ≡ (nat_lt 0 many && nat_le (from + many) end) }
 {
     0 < many && many <= end && from <= end - many
-}
-
-/// A rectangle, grown by a stage's reach on each side and cut to the card.
-fn grown(rect: Rect, size: Size, stage: &Stage) -> Rect
-    requires size { Limits size }
-    requires fits { Fits size rect }
-    ensures { result ≡ widened size stage.now rect }
-{
-    let reach = stage.element.reach();
-    let (x, y) = (reach.x as usize, reach.y as usize);
-    Rect {
-        left: rect.left.saturating_sub(x),
-        top: rect.top.saturating_sub(y),
-        right: (rect.right + x).min(size.width),
-        bottom: (rect.bottom + y).min(size.height),
-    }
-}
-
-/// The rectangle of the outer sides of two.
-fn hull(a: Rect, b: Rect) -> Rect
-    ensures { result ≡ hull a b }
-{
-    Rect {
-        left: a.left.min(b.left),
-        top: a.top.min(b.top),
-        right: a.right.max(b.right),
-        bottom: a.bottom.max(b.bottom),
-    }
-}
-
-/// The rows of an area.
-pub(crate) fn rows(area: Option<Rect>) -> usize
-    requires { (r : Rect) → area ≡ Some r → r.top ≤ r.bottom }
-    ensures { result ≡ rows area }
-{
-    match area {
-        None => 0,
-        Some(r) => r.bottom - r.top,
-    }
-}
-
-/// The first column of a piece of row y, n wide from column x on, that an area holds.
-pub(crate) fn met(area: Option<Rect>, x: usize, y: usize, n: usize) -> Option<usize>
-    ensures { result ≡ met area x y n }
-{
-    let Some(r) = area else {
-        return None;
-    };
-    let first = x.max(r.left);
-    if r.top <= y && y < r.bottom && first < r.right && first - x < n {
-        Some(first)
-    } else {
-        None
-    }
 }

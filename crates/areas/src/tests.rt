@@ -1,10 +1,10 @@
 //! Examples.
 
-ghost use Rattle.planes.specs.Sizes.{Limits};
-ghost use Rattle.std.specs.Prelude.{◌≡◌, ◌≤◌, length};
+ghost use Rattle.std.specs.Prelude.{◌≤◌, length};
 
 use crate::areas::Areas;
 use crate::rect::Rect;
+use planes::frame::Frame;
 use planes::size::Size;
 use recipes::element::Element;
 use recipes::recipe::{Operation, Stage};
@@ -21,11 +21,10 @@ fn erosion() -> Stage {
 }
 
 /// The areas of some stages with nothing stale.
-fn clean(size: Size, stages: &[Stage]) -> Areas
-    requires size { Limits size }
-    requires few { length stages.now ≤ 8 }
+fn clean(frame: Frame, stages: &[Stage]) -> Areas
+    requires { length stages.now ≤ 8 }
 {
-    let mut areas = Areas::all_stale(size, stages);
+    let mut areas = Areas::all_stale(frame, stages);
     for _ in 0..areas.rows_left() {
         areas.drop_row();
     }
@@ -34,32 +33,30 @@ fn clean(size: Size, stages: &[Stage]) -> Areas
 
 /// Writes the pixel in column x and row y.
 fn write(areas: &mut Areas, stages: &[Stage], x: usize, y: usize) -> Result<(), Fail> {
-    match Rect::on(areas.size(), x, y, 1, 1) {
-        Some(rect) => {
-            areas.spread(stages, rect);
-            Ok(())
-        }
-        None => Err(Fail::new("off the card")),
-    }
+    let Some(rect) = Rect::on(areas.size(), x, y, 1, 1) else {
+        return Err(Fail::new("off the card"));
+    };
+    areas.spread(stages, rect);
+    Ok(())
 }
 
 #[test]
 fn a_corner_makes_two_rows_stale(rt: HostRuntime) -> Result<(), Fail> {
-    let size = Size {
+    let frame = Frame::new(Size {
         width: 3,
         height: 3,
-    };
+    });
     let stages = [erosion(), erosion()];
-    let mut one = clean(size, &stages[0..1]);
+    let mut one = clean(frame, &stages[..1]);
     assert_eq!(rt; one.rows_left(), 0);
-    write(&mut one, &stages[0..1], 0, 0)?;
+    write(&mut one, &stages[..1], 0, 0)?;
     assert_eq!(rt; one.rows_left(), 2);
-    assert!(rt; one.next() == Some((1, 0)));
-    let mut both = clean(size, &stages);
+    assert_eq!(rt; one.next(), Some((1, 0)));
+    let mut both = clean(frame, &stages);
     write(&mut both, &stages, 0, 0)?;
     assert_eq!(rt; both.rows_left(), 5);
-    assert!(rt; one.first_met(1, 1, usize::MAX) == Some(1));
-    assert!(rt; one.first_met(2, 1, usize::MAX) == None);
+    assert_eq!(rt; one.first_met(1, 1, usize::MAX), Some(1));
+    assert_eq!(rt; one.first_met(2, 1, usize::MAX), None);
     Ok(())
 }
 
@@ -67,10 +64,10 @@ fn a_corner_makes_two_rows_stale(rt: HostRuntime) -> Result<(), Fail> {
 fn the_smallest_rectangle_brings_rows_back(rt: HostRuntime) -> Result<(), Fail> {
     let stages = [erosion()];
     let mut areas = clean(
-        Size {
+        Frame::new(Size {
             width: 1,
             height: 6,
-        },
+        }),
         &stages,
     );
     write(&mut areas, &stages, 0, 5)?;
@@ -81,7 +78,7 @@ fn the_smallest_rectangle_brings_rows_back(rt: HostRuntime) -> Result<(), Fail> 
         areas.drop_row();
         assert_eq!(rt; areas.rows_left(), left);
     }
-    assert!(rt; areas.next() == Some((1, 3)));
+    assert_eq!(rt; areas.next(), Some((1, 3)));
     write(&mut areas, &stages, 0, 0)?;
     assert_eq!(rt; areas.rows_left(), 6);
     Ok(())

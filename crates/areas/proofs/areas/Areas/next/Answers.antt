@@ -1,12 +1,12 @@
-use Rattle.std.proofs.Common.{◌≡◌, sym, ap, ◌∙◌, subst}
-use Rattle.areas.specs.Areas.{next_of, top_row}
+use Rattle.std.proofs.Common.{◌≡◌, sym, subst, rules}
+use Rattle.areas.specs.Areas.{next_of}
 use Rattle.areas.specs.Listed.{listed}
 use Rattle.areas.specs.Meanings.{NextIs}
 use Rattle.areas.proofs.Dropping.{next_is}
 use Rattle.areas.proofs.areas.Areas.next.Goals as goal
 
-pub returns : goal.returns
-returns c =
+pub returns-clause-meaning : goal.returns-clause-meaning
+returns-clause-meaning c =
     let a = c.args.self.now in
-    let is : c.top_row.result ≡ next_of (listed a) = c.top_row.ensures ∙ ap top_row c.lowest.ensures.answer in
-    record { answer = is; meaning = subst (NextIs (listed a)) (sym is) (next_is a.size (listed a) a.sound) }
+    let is : c.map.result ≡ next_of (listed a) = search rules in
+    subst (NextIs (listed a)) (sym is) (next_is a.frame.size (listed a) a.sound)
