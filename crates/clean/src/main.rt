@@ -4,12 +4,14 @@
 
 mod text;
 
-use plain::input::file_from;
+use plain::input::file_of;
 use std::io;
+use std::io::Read;
 use text::report;
 
 fn main(rt: HostRuntime) -> io::Result<()> {
     let heap = rt.alloc();
-    let file = file_from(heap, rt.stdin())?;
+    let mut file = Vec::new(heap);
+    file_of(rt.stdin()).read_to_end(&mut file)?;
     rt.print(report(heap, file.as_slice())?)
 }

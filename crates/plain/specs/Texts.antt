@@ -1,13 +1,9 @@
 -- What is printed of a file.
-use Rattle.std.specs.Prelude.{◌≡◌, ℕ, cond, List, ◌++◌, length, take, codes, decimal, nat_lt}
+use Rattle.std.specs.Prelude.{◌≡◌, ℕ, cond, List, ◌++◌, length, codes, decimal, nat_lt}
 use Rattle.std.specs.List.{flat_map}
 use Rattle.pgm.specs.Numbers.{number_of, byte_of}
 use Rattle.pgm.specs.Reading.{Reading, Reads}
 use Rattle.pgm.specs.declared.faults.FileFault.{FileFault}
-
--- as much of a file as is read: the longest has 16,640 bytes, and one more shows that it is too large
-abbrev pub first_bytes : List ℕ → List ℕ
-first_bytes file = take 16641 file
 
 abbrev pub line : ℕ → List ℕ
 line t = decimal t ++ codes "\n"

@@ -1,8 +1,9 @@
 // The texts and the input, once each.
 
-use crate::input::{LONGEST, file_from};
+use crate::input::{LONGEST, file_of};
 use crate::texts::{PlainPgm, Refused};
 use pgm::faults::{FileFault, HeaderFault};
+use std::io::Read;
 use std::test::Fail;
 
 #[test]
@@ -27,7 +28,8 @@ fn refusal(rt: HostRuntime) -> Result<(), Fail> {
 #[test]
 fn long_input(rt: HostRuntime) -> Result<(), Fail> {
     let long = vec![in rt.alloc(); b'x'; LONGEST + 2]?;
-    let file = file_from(rt.alloc(), long.as_slice())?;
+    let mut file = Vec::new(rt.alloc());
+    file_of(long.as_slice()).read_to_end(&mut file)?;
     assert_eq!(rt; file.len(), LONGEST + 1);
     Ok(())
 }
