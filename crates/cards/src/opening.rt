@@ -9,6 +9,7 @@ ghost use Rattle.cards.specs.Meanings.{InOrder, notes, state_of};
 ghost use Rattle.planes.specs.declared.size.Size.{Size};
 
 use crate::card::Card;
+use crate::operations::fits;
 use calls::refusals::Refusal;
 use planes::size::Size;
 use selectors::Selector;
@@ -36,9 +37,7 @@ impl<T: Tone, S: Selector> Card<T, S> {
             return Err(Refusal::Size);
         }
         let sheet = Sheet::fresh(Size { width, height }, stages);
-        if memory.len() != sheet.room() {
-            return Err(Refusal::Memory);
-        }
+        fits(&sheet, memory)?;
         if self.selector.range() < T::count() {
             return Err(Refusal::Range);
         }

@@ -1,11 +1,13 @@
 //! The calls on a card of any tones.
 
-ghost use Rattle.std.specs.Prelude.{◌≡◌, ℕ, List, None};
+ghost use Rattle.std.specs.Prelude.{◌≡◌, ℕ, List, length, None, Ok, Err, ◌==◌, if◌then◌else◌};
 ghost use Rattle.calls.specs.Calls.Answer.{Next, Number};
 ghost use Rattle.calls.specs.Calls.Call.{Due, Install, Left, Patch, Row, Work};
-ghost use Rattle.calls.specs.Calls.{done, number, piece};
+ghost use Rattle.calls.specs.Calls.{done, number, piece, room};
+ghost use Rattle.calls.specs.declared.refusals.Refusal.TheVariants.{Memory};
 ghost use Rattle.calls.specs.Outcomes.{Outcome};
 ghost use Rattle.cards.specs.Meanings.{InOrder, notes, state_of};
+ghost use Rattle.sheets.specs.Meanings.{notes_of};
 
 use crate::card::Card;
 use areas::rect::Rect;
@@ -34,20 +36,14 @@ impl<T: Tone, S: Selector> Card<T, S> {
     pub fn left(&self) -> usize
         ensures { (m : List T.Row) → Outcome T.Tone.kind (state_of S.Selector.weight self.now m) Left (Number result) (state_of S.Selector.weight self.now m) }
     {
-        match &self.sheet {
-            Some(sheet) => sheet.rows_left(),
-            None => 0,
-        }
+        self.sheet.as_ref().map_or(0, |sheet| sheet.rows_left())
     }
 
     /// The stage, counted from 1, and the row that is redone next, or nothing.
     pub fn due(&self) -> Option<(usize, usize)>
         ensures { (m : List T.Row) → Outcome T.Tone.kind (state_of S.Selector.weight self.now m) Due (Next result) (state_of S.Selector.weight self.now m) }
     {
-        match &self.sheet {
-            Some(sheet) => sheet.next(),
-            None => None,
-        }
+        self.sheet.as_ref()?.next()
     }
 
     /// Redoes so many stale rows as the budget allows, and answers how many. Refused without a size (16) and with memory of another length (14).
@@ -56,15 +52,9 @@ impl<T: Tone, S: Selector> Card<T, S> {
         ensures outcome { Outcome T.Tone.kind (state_of S.Selector.weight self.old memory.old) (Work budget) (number result) (state_of S.Selector.weight self.new memory.new) }
         ensures in_order { InOrder T.Tone.kind S.Selector.range S.Selector.ordered self.new }
     {
-        let Some(mut sheet) = self.sheet else {
-            return Err(Refusal::Unopened);
-        };
-        if memory.len() != sheet.room() {
-            return Err(Refusal::Memory);
-        }
-        let rows = sheet.work::<T, S>(&mut self.selector, memory, budget);
-        self.sheet = Some(sheet);
-        Ok(rows)
+        let sheet = self.sheet.as_mut().ok_or(Refusal::Unopened)?;
+        fits(sheet, memory)?;
+        Ok(sheet.work::<T, S>(&mut self.selector, memory, budget))
     }
 
     /// Lays a rectangle of tones over the raw card, row by row; the areas spread. Refused without a size (16), with memory of another length (14), where the rectangle is empty or not wholly on the card (17), and with a wrong count of tones (18).
@@ -81,15 +71,9 @@ impl<T: Tone, S: Selector> Card<T, S> {
         ensures selector { self.new.selector ≡ self.old.selector }
         ensures in_order { InOrder T.Tone.kind S.Selector.range S.Selector.ordered self.old → InOrder T.Tone.kind S.Selector.range S.Selector.ordered self.new }
     {
-        let Some(mut sheet) = self.sheet else {
-            return Err(Refusal::Unopened);
-        };
-        if memory.len() != sheet.room() {
-            return Err(Refusal::Memory);
-        }
-        let answer = sheet.patch::<T>(memory, x, y, width, height, tones);
-        self.sheet = Some(sheet);
-        answer
+        let sheet = self.sheet.as_mut().ok_or(Refusal::Unopened)?;
+        fits(sheet, memory)?;
+        sheet.patch::<T>(memory, x, y, width, height, tones)
     }
 
     /// Hands out n tones of row y of the finished plane, from column x on: that part of the memory itself. Refused without a size (16), with memory of another length (14), where the piece is empty or not wholly on the card (17), and where it meets the last stage's stale area, with the first column met (22).
@@ -102,12 +86,8 @@ impl<T: Tone, S: Selector> Card<T, S> {
     ) -> Result<&'a [T::Row], Refusal>
         ensures { Outcome T.Tone.kind (state_of S.Selector.weight self.now memory.now) (Row x y n) (piece result) (state_of S.Selector.weight self.now memory.now) }
     {
-        let Some(sheet) = &self.sheet else {
-            return Err(Refusal::Unopened);
-        };
-        if memory.len() != sheet.room() {
-            return Err(Refusal::Memory);
-        }
+        let sheet = self.sheet.as_ref().ok_or(Refusal::Unopened)?;
+        fits(sheet, memory)?;
         if Rect::on(sheet.size(), x, y, n, 1).is_none() {
             return Err(Refusal::Outside);
         }
@@ -124,14 +104,19 @@ impl<T: Tone, S: Selector> Card<T, S> {
         ensures selector { self.new.selector ≡ self.old.selector }
         ensures in_order { InOrder T.Tone.kind S.Selector.range S.Selector.ordered self.old → InOrder T.Tone.kind S.Selector.range S.Selector.ordered self.new }
     {
-        let Some(mut sheet) = self.sheet else {
-            return Err(Refusal::Unopened);
-        };
-        if memory.len() != sheet.room() {
-            return Err(Refusal::Memory);
-        }
-        let answer = sheet.install::<T>(draft);
-        self.sheet = Some(sheet);
-        answer
+        let sheet = self.sheet.as_mut().ok_or(Refusal::Unopened)?;
+        fits(sheet, memory)?;
+        sheet.install::<T>(draft)
+    }
+}
+
+/// Refused with memory of another length than the sheet's (14).
+pub(crate) fn fits<R>(sheet: &Sheet, memory: &[R]) -> Result<(), Refusal>
+    ensures { result ≡ (if length memory.now == room (notes_of sheet.now) then Ok tt else Err Memory) }
+{
+    if memory.len() == sheet.room() {
+        Ok(())
+    } else {
+        Err(Refusal::Memory)
     }
 }

@@ -6,6 +6,7 @@ ghost use Rattle.calls.specs.Residue.{difference, differences, residue_after, re
 ghost use Rattle.cards.specs.Meanings.{notes};
 
 use crate::card::Card;
+use crate::operations::fits;
 use calls::refusals::Refusal;
 use selectors::Selector;
 use tones::Grey;
@@ -16,12 +17,8 @@ impl<S: Selector> Card<Grey, S> {
         ensures answer { done result ≡ residue_answer (notes self.now) memory.now (length reliefs.old) }
         ensures reliefs { reliefs.new ≡ residue_after (notes self.now) memory.now reliefs.old }
     {
-        let Some(sheet) = &self.sheet else {
-            return Err(Refusal::Unopened);
-        };
-        if memory.len() != sheet.room() {
-            return Err(Refusal::Memory);
-        }
+        let sheet = self.sheet.as_ref().ok_or(Refusal::Unopened)?;
+        fits(sheet, memory)?;
         if reliefs.len() != sheet.size().area() {
             return Err(Refusal::Count);
         }
@@ -38,8 +35,9 @@ fn subtract(memory: &[u8], from: usize, reliefs: &mut [i16])
     requires { from + length reliefs.old ≤ length memory.now }
     ensures { reliefs.new ≡ differences memory.now from (length reliefs.old) }
 {
-    for i in 0..reliefs.len() {
-        reliefs[i] = difference(memory[i], memory[from + i]);
+    // By the index: a proof knows nothing of what is written through a `zip` of `iter_mut`.
+    for (i, relief) in reliefs.iter_mut().enumerate() {
+        *relief = difference(memory[i], memory[from + i]);
     }
 }
 

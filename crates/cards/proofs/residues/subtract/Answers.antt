@@ -1,7 +1,5 @@
-use Rattle.std.proofs.Common.{◌≡◌, ◌<◌, ◌≤◌, length, sym, ap, ◌∙◌, arith, w16, SFits, rules}
-use Rattle.std.proofs.lemmas.List.{take_all}
+use Rattle.std.proofs.Common.{◌<◌, length, sym, arith, w16, SFits, rules}
 use Rattle.std.proofs.lemmas.Int.{to_z-of_z}
-use Rattle.calls.specs.Residue.{differences}
 use Rattle.cards.proofs.Subtracting.{differences_none, differences_more}
 use Rattle.cards.proofs.residues.subtract.Goals as goal
 
@@ -14,9 +12,3 @@ loop-i-preserved c =
     let fits : SFits w16 c.difference.result = search rules in
     let step = differences_more c.args.memory.now c.args.from c.loop-i.i c.loop-i.reliefs c.difference.result within c.loop-i.invariant c.difference.ensures in
     simp to_z-of_z step
-
-pub returns : goal.returns
-returns c =
-    let end : c.loop-i.i ≡ length c.args.reliefs.now = omega arith in
-    let all : length c.loop-i.reliefs ≤ c.loop-i.i = omega arith in
-    sym (take_all c.loop-i.i c.loop-i.reliefs all) ∙ (c.loop-i.invariant ∙ ap (differences c.args.memory.now c.args.from) end)

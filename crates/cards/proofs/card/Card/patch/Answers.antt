@@ -1,24 +1,22 @@
-use Rattle.std.proofs.Common.{◌*◌, length, is_some, Some, refl, ap, ◌∙◌}
+use Rattle.std.proofs.Common.{◌≡◌, ◌*◌, length, Some, refl, ap, rules}
 use Rattle.std.specs.Option.{option_map}
 use Rattle.areas.specs.Rects.{rect_on}
 use Rattle.calls.specs.Calls.Call.{Patch}
+use Rattle.calls.specs.Calls.{room}
 use Rattle.calls.specs.Outcomes.{patch_refusal, patched}
 use Rattle.sheets.specs.Meanings.{notes_of, open_of}
 use Rattle.cards.proofs.Answered.{answered, left_alone}
 use Rattle.cards.proofs.card.Card.patch.Goals as goal
 
-pub returns : goal.returns
-returns g c =
+pub returns-clause-outcome : goal.returns-clause-outcome
+returns-clause-outcome g c =
     let k = g.T.Tone.kind in
     let w = g.S.Selector.weight c.args.self.now.selector in
     let m = c.args.memory.now in
-    let sheet = c.in-Some.sheet in
+    let sheet = c.in_ok-sheet.sheet.now in
     let o = open_of sheet w m in
     let tones = c.args.tones.now in
     let refusal = patch_refusal (rect_on sheet.areas.size c.args.x c.args.y c.args.width c.args.height) (c.args.width * c.args.height) (length tones) in
-    record {
-      outcome =
-          answered k _ (notes_of sheet) w m (Patch c.args.x c.args.y c.args.width c.args.height tones) _ _ (ap (option_map notes_of) c.in-Some.is) (c.if-memory-room.false ∙ c.room.ensures) (c.patch-answer.ensures.answer w) (ap Some (c.patch-answer.ensures.notes w)) (λ code. left_alone (λ p. p.weights code) refusal o (patched k c.args.x c.args.y c.args.width c.args.height tones o) refl) (c.patch-answer.ensures.memory w);
-      selector = refl;
-      in_order = λ i. record { selector = i.selector; codes = λ _. i.codes (ap is_some c.in-Some.is) };
-    }
+    let is : c.args.self.now.sheet ≡ Some sheet = search rules in
+    let long : length m ≡ room (notes_of sheet) = search rules in
+    answered k _ (notes_of sheet) w m (Patch c.args.x c.args.y c.args.width c.args.height tones) _ _ (ap (option_map notes_of) is) long (c.patch.ensures.answer w) (ap Some (c.patch.ensures.notes w)) (λ code. left_alone (λ p. p.weights code) refusal o (patched k c.args.x c.args.y c.args.width c.args.height tones o) refl) (c.patch.ensures.memory w)
