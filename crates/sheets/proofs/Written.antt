@@ -1,23 +1,13 @@
--- Tones written into memory, one after the other, and row by row.
-use Rattle.std.proofs.Common.{◌≡◌, ℕ, suc, ◌+◌, ◌*◌, ◌<◌, ◌≤◌, List, [], ◌∷◌, ◌++◌, map, length, get_or, take, drop, set, sym, refl, ap, ◌∙◌, mul-le-mul_right, suc-mul, mul_comm, add-one, arith}
-use Rattle.std.proofs.lemmas.List.{map-append, take_more, length-map, length-take-le}
+-- A patch is laid row by row.
+use Rattle.std.proofs.Common.{◌≡◌, ℕ, suc, ◌+◌, ◌-◌, ◌*◌, ◌<◌, ◌≤◌, min, List, ◌++◌, map, length, take, drop, sym, refl, ap, ◌∙◌, ⊎_elim, mul-le-mul_right, suc-mul, mul_comm, add-one, arith}
+use Rattle.std.proofs.lemmas.Bool.{cases_lt}
+use Rattle.std.proofs.lemmas.List.{length-drop, length-take-le, take_at, drop_at, drop-drop}
+use borrow.Rule.Slice.PartMut.{put_mid}
 use Rattle.planes.specs.declared.size.Size.{Size}
 use Rattle.planes.specs.Sizes.{area, cell}
 use Rattle.stages.specs.Planes.{overwritten}
-use Rattle.stages.proofs.Lines.{overwritten_more}
 use Rattle.tones.specs.Kind.{Kind}
 use Rattle.calls.specs.Outcomes.{laid}
-
--- one tone more
-pub tones_more : {R : Type 0} (f : R → R) (m tones : List R) (at i : ℕ) (tone r : R) → i < length tones → at + length tones ≤ length m → tone ≡ get_or tones i tone → r ≡ f tone → set (overwritten m at (map f (take i tones))) (at + i) r ≡ overwritten m at (map f (take (i + 1) tones))
-tones_more f m tones at i tone r l h e w =
-    let new = map f (take i tones) in
-    let n : length new ≡ i = length-map (take i tones) f ∙ length-take-le i tones (omega arith) in
-    let fits : at + length new < length m = omega (arith, n) in
-    let step = overwritten_more m new at r fits in
-    let item : take (i + 1) tones ≡ take i tones ++ tone ∷ [] = take_more tones i tone l ∙ ap (λ t. take i tones ++ t ∷ []) (sym e) in
-    let all : map f (take (i + 1) tones) ≡ new ++ r ∷ [] = ap (map f) item ∙ (map-append f (take i tones) (tone ∷ []) ∙ ap (λ t. new ++ t ∷ []) (sym w)) in
-    ap (λ j. set (overwritten m at new) (at + j) r) (sym n) ∙ (step ∙ ap (overwritten m at) (sym all))
 
 -- no row, then one row more
 pub laid_none : {T R : Type 0} (K : Kind T R) (size : Size) (x y w : ℕ) (tones m : List R) → laid K size x y w tones m 0 ≡ m
@@ -38,3 +28,30 @@ row_within i w n h = let e = mul-le-mul_right w h in omega (arith, e, suc-mul i 
 pub piece_within : (size : Size) (x y n : ℕ) → x + n ≤ size.width → y < size.height → cell size x y + n ≤ area size
 piece_within size x y n p q =
     let e = mul-le-mul_right size.width q in omega (arith, e, suc-mul y size.width, mul_comm size.height size.width)
+
+-- the next row of a patch, and the tones left after it
+pub record NextRow {R : Type 0} (tones row later : List R) (n w : ℕ) : Type 0 where
+  pub next : row ≡ take w (drop (n * w) tones)
+  pub long : length row ≡ w
+  pub rest : later ≡ drop ((n + 1) * w) tones
+
+pub next_row : {R : Type 0} (tones rest row later : List R) (w n height : ℕ) → length tones ≡ w * height → n < height → rest ≡ drop (n * w) tones → rest ≡ row ++ later → {size : ℕ} → size ≡ w → length row ≡ min size (length rest) → NextRow tones row later n w
+next_row tones rest row later w n height count h is parts cut long =
+    let wide : length row ≡ w = omega (arith, long, cut, ap length is, length-drop (n * w) tones, count, row_within n w height h) in
+    let next : n * w + w ≡ (n + 1) * w = omega (arith, suc-mul n w, ap (λ i. i * w) (add-one n)) in
+    record {
+      next = sym (take_at row later w wide) ∙ ap (take w) (sym parts ∙ is);
+      long = wide;
+      rest = sym (drop_at row later w wide) ∙ (ap (drop w) (sym parts ∙ is) ∙ (drop-drop w (n * w) tones ∙ ap (λ i. drop i tones) next));
+    }
+
+-- no tones are left once every row came
+pub rows_came : {R : Type 0} (tones : List R) (w n height : ℕ) → 1 ≤ w → length tones ≡ w * height → length (drop (n * w) tones) ≡ 0 → height ≤ n
+rows_came tones w n height wide count none =
+    ⊎_elim (λ h. absurd (omega (arith, h, wide, count, none, length-drop (n * w) tones, row_within n w height h))) (λ h. h) (cases_lt n height)
+
+-- a part of the memory is written over
+pub put_over : {R : Type 0} (m new part : List R) (at n : ℕ) → new ≡ part → n ≡ length part → put_mid at (at + n - at) m new ≡ overwritten m at part
+put_over m new part at n e l =
+    let k : at + n - at ≡ length part = omega (arith, l) in
+    ap (λ ys. put_mid at (at + n - at) m ys) e ∙ ap (λ d. take at m ++ (part ++ d)) (drop-drop (at + n - at) at m ∙ ap (λ j. drop (at + j) m) k)

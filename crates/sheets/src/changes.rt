@@ -41,12 +41,8 @@ impl Sheet {
         requires { length (staged recipe) ≤ self.old.most }
         ensures { notes_of self.new ≡ with_recipe (notes_of self.old) (staged recipe) }
     {
-        let size = self.size();
-        *self = Sheet {
-            most: self.most,
-            recipe,
-            areas: all_stale(size, &recipe),
-        };
+        self.areas = Areas::all_stale(self.size(), recipe.stages());
+        self.recipe = recipe;
     }
 
     /// A rectangle of the raw card was written: the areas spread.
@@ -54,9 +50,8 @@ impl Sheet {
         requires { Fits (notes_of self.old).size rect }
         ensures { notes_of self.new ≡ with_areas (notes_of self.old) (spread (notes_of self.old).size (notes_of self.old).recipe rect (notes_of self.old).areas) }
     {
-        let mut areas = self.areas;
-        areas.spread(self.recipe.stages(), rect);
-        self.areas = areas;
+        let Sheet { recipe, areas, .. } = self;
+        areas.spread(recipe.stages(), rect);
     }
 
     /// Lays a patch over the raw card; the areas spread. Refused where the rectangle is empty or not wholly on the card (17), then where the count of tones is wrong (18).
@@ -75,13 +70,11 @@ impl Sheet {
         ensures memory { (w : ℕ → ℕ) → memory.new ≡ (after_open T.Tone.kind (open_of self.old w memory.old) (Patch x y width height tones.now)).memory }
     {
         let size = self.size();
-        let Some(rect) = Rect::on(size, x, y, width, height) else {
-            return Err(Refusal::Outside);
-        };
+        let rect = Rect::on(size, x, y, width, height).ok_or(Refusal::Outside)?;
         if tones.len() != width * height {
             return Err(Refusal::Count);
         }
-        lay::<T>(memory, size, x, y, width, height, tones);
+        lay::<T>(memory, size, rect, tones);
         self.spread(rect);
         Ok(())
     }
@@ -91,9 +84,7 @@ impl Sheet {
         ensures answer { (w : ℕ → ℕ) (m : List T.Row) → done result ≡ answer_open T.Tone.kind (open_of self.old w m) (Install draft) }
         ensures notes { (w : ℕ → ℕ) (m : List T.Row) → notes_of self.new ≡ (after_open T.Tone.kind (open_of self.old w m) (Install draft)).notes }
     {
-        let Ok(recipe) = draft.finish() else {
-            return Err(Refusal::TooFewSteps);
-        };
+        let recipe = draft.finish().map_err(|_| Refusal::TooFewSteps)?;
         if recipe.len() > self.most {
             return Err(Refusal::TooManyStages);
         }
@@ -103,14 +94,4 @@ impl Sheet {
         self.replace(recipe);
         Ok(())
     }
-}
-
-/// The areas of a recipe, of which all is stale.
-fn all_stale(size: Size, recipe: &Recipe) -> Areas
-    requires { Limits size }
-    ensures size { result.size ≡ size }
-    ensures areas { listed result ≡ all_stale size (staged recipe.now) }
-    ensures count { length (listed result) ≡ length (staged recipe.now) }
-{
-    Areas::all_stale(size, recipe.stages())
 }

@@ -1,25 +1,11 @@
-use Rattle.std.proofs.Common.{◌+◌, ◌<◌, ◌≤◌, map, length, set, sym, ap, ◌∙◌, arith}
-use Rattle.std.proofs.lemmas.List.{take_all}
-use Rattle.stages.specs.Planes.{overwritten}
-use Rattle.stages.proofs.Lines.{overwritten_none}
-use Rattle.sheets.proofs.Written.{tones_more}
+use Rattle.std.proofs.Common.{◌≡◌, ◌<◌, length, set, sym, ap, ◌∙◌, arith}
+use Rattle.std.proofs.lemmas.List.Edits.{map_over_more}
 use Rattle.sheets.proofs.laying.lay_row.Goals as goal
 
-pub loop-i-init : goal.loop-i-init
-loop-i-init g c = sym (overwritten_none c.args.memory.now c.args.at)
-
-pub loop-i-preserved : goal.loop-i-preserved
-loop-i-preserved g c =
+pub loop-place-preserved : goal.loop-place-preserved
+loop-place-preserved g c =
     let k = g.T.Tone.kind in
-    let tones = c.args.tones.now in
-    let m = c.args.memory.now in
-    let within : c.loop-i.i < length tones = omega arith in
-    ap (λ l. set l (c.args.at + c.loop-i.i) c.row.result) c.loop-i.invariant
-    ∙ tones_more (λ r. k.row (k.counted r)) m tones c.args.at c.loop-i.i c.index-tones-i.result c.row.result within c.requires c.index-tones-i.is (c.row.ensures ∙ ap k.row c.of_row.ensures)
-
-pub returns : goal.returns
-returns g c =
-    let k = g.T.Tone.kind in
-    let tones = c.args.tones.now in
-    let end : length tones ≤ c.loop-i.i = omega arith in
-    c.loop-i.invariant ∙ ap (λ ts. overwritten c.args.memory.now c.args.at (map (λ r. k.row (k.counted r)) ts)) (take_all c.loop-i.i tones end)
+    let i = c.loop-place.place-index in
+    let within : i < length c.args.tones.now = omega (arith, ap length c.copy_from_slice.ensures.after) in
+    let row = c.row.ensures ∙ ap k.row (c.of_row.ensures ∙ ap k.counted (sym c.place-item.is)) in
+    ap (set c.loop-place.places i) row ∙ map_over_more (λ r. k.row (k.counted r)) c.args.tones.now c.loop-place.places i c.place-item.result within c.loop-place.invariant c.place-item.is

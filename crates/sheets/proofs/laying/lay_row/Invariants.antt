@@ -1,8 +1,7 @@
-use Rattle.std.proofs.Common.{◌≡◌, map, take}
-use Rattle.stages.specs.Planes.{overwritten}
+use Rattle.std.proofs.Common.{◌≡◌, ◌++◌, map, take, drop}
 use Rattle.sheets.proofs.laying.lay_row.Given as goal
 
-abbrev pub invariant-loop-i : goal.invariant-loop-i
-invariant-loop-i g l =
+abbrev pub invariant-loop-place : goal.invariant-loop-place
+invariant-loop-place g l =
     let k = g.T.Tone.kind in
-    l.memory ≡ overwritten l.initial.memory l.at (map (λ r. k.row (k.counted r)) (take l.i l.tones))
+    l.places ≡ map (λ r. k.row (k.counted r)) (take l.place-index l.tones) ++ drop l.place-index l.tones
