@@ -1,13 +1,18 @@
 -- The lowest stage with an area as a task, and where its planes lie.
-use Rattle.std.proofs.Common.{◌≡◌, ℕ, suc, ◌+◌, ◌-◌, ◌<◌, ◌≤◌, List, [], ◌∷◌, length, get_or, Some, None, sym, refl, ap, ◌∙◌, mul-le-mul_right, suc-mul, arith}
+use Rattle.std.proofs.Common.{◌≡◌, ℕ, suc, ◌+◌, ◌-◌, ◌≤◌, List, [], ◌∷◌, length, get_or, Some, None, Option, IfSome, sym, refl, ap, ◌∙◌, le_refl, mul-le-mul_right, suc-mul, arith}
 use Rattle.planes.specs.declared.size.Size.{Size}
 use Rattle.planes.specs.Sizes.{area, start}
 use Rattle.recipes.specs.declared.recipe.Stage.{Stage}
 use Rattle.areas.specs.declared.rect.Rect.{Rect}
 use Rattle.areas.specs.Areas.{Area, lowest, lowest_from}
-use Rattle.areas.proofs.Walks.{Lowest, lowest_is}
+use Rattle.areas.proofs.Walks.{lowest_is}
 use Rattle.stages.specs.Rows.{row_made, row_weights}
 use Rattle.tones.specs.Kind.{Kind}
+use Rattle.recipes.specs.Recipes.{staged}
+use Rattle.areas.specs.Listed.{listed}
+use Rattle.areas.proofs.Listing.{drop_from, drop_within, drop_fits, length_listed}
+use Rattle.sheets.specs.declared.sheet.Sheet.{Sheet}
+use Rattle.sheets.specs.Meanings.{Stands}
 use Rattle.calls.specs.Calls.{Notes}
 use Rattle.calls.specs.Outcomes.{task, task_from, task_made, task_weights}
 
@@ -44,38 +49,51 @@ plane_within size j most h =
     let more : suc j ≤ suc most = omega arith in
     let e = mul-le-mul_right (area size) more in omega (arith, e, suc-mul j (area size))
 
--- an item of a list that has one
-item : {X : Type 0} (xs : List X) → 0 < length xs → X
-item [] h = absurd (omega arith)
-item (x ∷ xs) h = x
-
 -- what a stage makes by its number is what its task makes
-module _ {T R : Type 0} (K : Kind T R) (n : Notes) (k : ℕ) (r : Rect) (matched : length n.areas ≡ length n.recipe) (is : lowest n.areas ≡ Some (k, r)) (size : Size) (ss : List Stage) (sized : size ≡ n.size) (staged : ss ≡ n.recipe) (m : List R) where
-  numbered : Lowest 1 n.areas k r
-  numbered = lowest_is 1 n.areas k r is
-
-  some_stage : Stage
-  some_stage = item n.recipe (omega (arith, numbered.stands, matched))
-
-  the_task : task n ≡ Some (record { stage = get_or ss (k - 1) some_stage; below = k - 1; area = r })
+module _ {T R : Type 0} (K : Kind T R) (n : Notes) (k : ℕ) (r : Rect) (s : Stage) (matched : length n.areas ≡ length n.recipe) (is : lowest n.areas ≡ Some (k, r)) (stage : s ≡ get_or n.recipe (k - 1) s) where
+  the_task : task n ≡ Some (record { stage = s; below = k - 1; area = r })
   the_task =
       let e : k - 1 - 0 ≡ k - 1 = omega arith in
-      task_some 0 n.recipe n.areas k r some_stage matched is
-      ∙ (ap (λ i. Some (record { stage = get_or n.recipe i some_stage; below = k - 1; area = r })) e
-      ∙ ap (λ l. Some (record { stage = get_or l (k - 1) some_stage; below = k - 1; area = r })) (sym staged))
+      task_some 0 n.recipe n.areas k r s matched is
+      ∙ (ap (λ i. Some (record { stage = get_or n.recipe i s; below = k - 1; area = r })) e
+      ∙ ap (λ t. Some (record { stage = t; below = k - 1; area = r })) (sym stage))
 
   after : suc (k - 1) ≡ k
-  after = let h = numbered.from in omega (arith, h)
+  after = let h = (lowest_is 1 n.areas k r is).from in omega (arith, h)
 
-  pub made_by : (new : List R) → ((s : Stage) → new ≡ row_made K size (get_or ss (k - 1) s) (start size (k - 1)) m r.top r.left r.right (start size k)) → new ≡ task_made K n.size (task n) m
-  made_by new h =
-      h some_stage
-      ∙ (ap (λ i. row_made K size (get_or ss (k - 1) some_stage) (start size (k - 1)) m r.top r.left r.right (start size i)) (sym after)
-      ∙ (ap (λ z. task_made K z (Some (record { stage = get_or ss (k - 1) some_stage; below = k - 1; area = r })) m) sized
-      ∙ ap (λ t. task_made K n.size t m) (sym the_task)))
+  -- from the plane that begins at one place into the one that begins at another
+  module _ (size : Size) (t : Stage) (from into : ℕ) (sized : size ≡ n.size) (same : t ≡ s) (reads : from ≡ start size (k - 1)) (m : List R) where
+    pub made_by : (new : List R) → into ≡ start size k → new ≡ row_made K size t from m r.top r.left r.right into → new ≡ task_made K n.size (task n) m
+    made_by new writes h =
+        h
+        ∙ (ap (λ i. row_made K size t i m r.top r.left r.right into) reads
+        ∙ (ap (λ u. row_made K size u (start size (k - 1)) m r.top r.left r.right into) same
+        ∙ (ap (λ i. row_made K size s (start size (k - 1)) m r.top r.left r.right i) (writes ∙ ap (start size) (sym after))
+        ∙ (ap (λ z. task_made K z (Some (record { stage = s; below = k - 1; area = r })) m) sized
+        ∙ ap (λ u. task_made K n.size u m) (sym the_task)))))
 
-  pub weighed_by : (before : ℕ → ℕ) (c new : ℕ) → ((s : Stage) → new ≡ row_weights K size (get_or ss (k - 1) s) (start size (k - 1)) m r.top r.left r.right before c) → new ≡ task_weights K n.size (task n) m before c
-  weighed_by before c new h =
-      h some_stage
-      ∙ (ap (λ z. task_weights K z (Some (record { stage = get_or ss (k - 1) some_stage; below = k - 1; area = r })) m before c) sized
-      ∙ ap (λ t. task_weights K n.size t m before c) (sym the_task))
+    pub weighed_by : (before : ℕ → ℕ) (c new : ℕ) → new ≡ row_weights K size t from m r.top r.left r.right before c → new ≡ task_weights K n.size (task n) m before c
+    weighed_by before c new h =
+        h
+        ∙ (ap (λ i. row_weights K size t i m r.top r.left r.right before c) reads
+        ∙ (ap (λ u. row_weights K size u (start size (k - 1)) m r.top r.left r.right before c) same
+        ∙ (ap (λ z. task_weights K z (Some (record { stage = s; below = k - 1; area = r })) m before c) sized
+        ∙ ap (λ u. task_weights K n.size u m before c) (sym the_task))))
+
+-- the lowest stage with an area, of a sheet
+pub stands : (s : Sheet) (k : ℕ) (r : Rect) → lowest (listed s.areas) ≡ Some (k, r) → Stands s k r
+stands s k r is =
+    let least : 1 ≤ k = drop_from s.areas k r is in
+    let most : k ≤ length (staged s.recipe) = omega (arith, least, drop_within s.areas k r is, length_listed s.areas, s.matched) in
+    let next : suc (k - 1) ≡ k = omega (arith, least) in
+    record {
+      from = least;
+      to = most;
+      fits = drop_fits s.areas k r is;
+      apart = rw next at (plane_within s.areas.size (k - 1) (k - 1) (le_refl (k - 1)));
+      within = plane_within s.areas.size k s.most (omega (arith, most, s.fits));
+    }
+
+pub stood : (s : Sheet) (o : Option (ℕ × Rect)) → o ≡ lowest (listed s.areas) → IfSome o (λ p. Stands s p.0 p.1)
+stood s None is = tt
+stood s (Some p) is = stands s p.0 p.1 (sym is)

@@ -1,8 +1,11 @@
 -- What a sheet notes. Assumes nothing.
-use Rattle.std.specs.Prelude.{ℕ, List}
+use Rattle.std.specs.Prelude.{ℕ, ◌+◌, ◌-◌, ◌≤◌, List, length}
+use Rattle.planes.specs.Sizes.{area, start}
 use Rattle.recipes.specs.Recipes.{staged}
+use Rattle.areas.specs.declared.rect.Rect.{Rect}
 use Rattle.areas.specs.Listed.{listed}
-use Rattle.calls.specs.Calls.{Notes, Open}
+use Rattle.areas.specs.Rects.{Fits}
+use Rattle.calls.specs.Calls.{Notes, Open, room}
 use Rattle.sheets.specs.declared.sheet.Sheet.{Sheet}
 
 abbrev pub notes_of : Sheet → Notes
@@ -11,3 +14,11 @@ notes_of s = record { size = s.areas.size; most = s.most; recipe = staged s.reci
 -- a sheet with the weights of a selector and with memory
 abbrev pub open_of : {R : Type 0} → Sheet → (ℕ → ℕ) → List R → Open R
 open_of s w m = record { notes = notes_of s; weights = w; memory = m }
+
+-- the sheet has a stage with that number, counted from 1; a rectangle lies on the card; the plane below the stage's ends before its own, and that within the memory
+pub record Stands (s : Sheet) (stage : ℕ) (rect : Rect) : Type 0 where
+  pub from : 1 ≤ stage
+  pub to : stage ≤ length (staged s.recipe)
+  pub fits : Fits s.areas.size rect
+  pub apart : start s.areas.size (stage - 1) + area s.areas.size ≤ start s.areas.size stage
+  pub within : start s.areas.size stage + area s.areas.size ≤ room (notes_of s)

@@ -1,12 +1,13 @@
 //! What a sheet says.
 
-ghost use Rattle.std.specs.Prelude.{◌≡◌, ◌+◌, ◌-◌, ◌<◌, ◌≤◌, length};
-ghost use Rattle.areas.specs.Areas.{stale_rows, next_of, last_area, met};
+ghost use Rattle.std.specs.Prelude.{◌≡◌, ◌+◌, ◌-◌, ◌<◌, ◌≤◌, length, IfSome};
+ghost use Rattle.areas.specs.Areas.{lowest, stale_rows, next_of, last_area, met};
 ghost use Rattle.calls.specs.Calls.{room};
 ghost use Rattle.planes.specs.Sizes.{Limits, cell, start};
-ghost use Rattle.sheets.specs.Meanings.{notes_of};
+ghost use Rattle.sheets.specs.Meanings.{Stands, notes_of};
 
 use crate::sheet::Sheet;
+use areas::rect::Rect;
 use planes::size::Size;
 
 impl Sheet {
@@ -44,6 +45,14 @@ impl Sheet {
         ensures { result ≡ next_of (notes_of self.now).areas }
     {
         self.areas.next()
+    }
+
+    /// The lowest stage with an area, counted from 1, and that area.
+    pub(crate) fn lowest(&self) -> Option<(usize, Rect)>
+        ensures answer { result ≡ lowest (notes_of self.now).areas }
+        ensures stands { IfSome result (λ p. Stands self.now p.0 p.1) }
+    {
+        self.areas.lowest()
     }
 
     /// The first column of a piece of row y, n wide from column x on, that is stale at the last stage.

@@ -20,52 +20,8 @@ use stages::rows::stage_row;
 use stages::window::Window;
 use tones::Tone;
 
-/// Makes the top row of the area of a stage, counted from 1, from the plane below.
-fn make_row<T: Tone, S: Selector>(
-    selector: &mut S,
-    stages: &[Stage],
-    size: Size,
-    memory: &mut [T::Row],
-    stage: usize,
-    rect: Rect,
-)
-    requires order { S.Selector.ordered selector.old }
-    requires codes { T.Tone.kind.count ≤ S.Selector.range selector.old }
-    requires size { Limits size }
-    requires stage { (1 ≤ stage) × ((stage ≤ length stages.now) × (stage ≤ 8)) }
-    requires rect { Fits size rect }
-    requires room { start size stage + area size ≤ length memory.old }
-    ensures memory { (s : Stage) → memory.new ≡ row_made T.Tone.kind size (slice_index_or stages.now (stage - 1) s) (start size (stage - 1)) memory.old rect.top rect.left rect.right (start size stage) }
-    ensures weights { (s : Stage) (c : ℕ) → S.Selector.weight selector.new c ≡ row_weights T.Tone.kind size (slice_index_or stages.now (stage - 1) s) (start size (stage - 1)) memory.old rect.top rect.left rect.right (S.Selector.weight selector.old) c }
-    ensures range_kept { S.Selector.range selector.new ≡ S.Selector.range selector.old }
-    ensures in_order { S.Selector.ordered selector.new }
-{
-    let window = Window::of(&stages[stage - 1]);
-    let (from, into) = (size.start(stage - 1), size.start(stage));
-    stage_row::<T, S>(
-        selector, &window, size, memory, from, into, rect.top, rect.left, rect.right,
-    );
-}
-
 impl Sheet {
-    /// Makes the top row of the lowest stage with an area, if there is one.
-    fn make_next<T: Tone, S: Selector>(&self, selector: &mut S, memory: &mut [T::Row])
-        requires order { S.Selector.ordered selector.old }
-        requires codes { T.Tone.kind.count ≤ S.Selector.range selector.old }
-        requires room { length memory.old ≡ room (notes_of self.now) }
-        ensures memory { memory.new ≡ task_made T.Tone.kind self.now.areas.size (task (notes_of self.now)) memory.old }
-        ensures weights { (c : ℕ) → S.Selector.weight selector.new c ≡ task_weights T.Tone.kind self.now.areas.size (task (notes_of self.now)) memory.old (S.Selector.weight selector.old) c }
-        ensures range_kept { S.Selector.range selector.new ≡ S.Selector.range selector.old }
-        ensures in_order { S.Selector.ordered selector.new }
-    {
-        let Some((stage, rect)) = self.areas.lowest() else {
-            return;
-        };
-        let size = self.size();
-        make_row::<T, S>(selector, self.recipe.stages(), size, memory, stage, rect);
-    }
-
-    /// Redoes the top row of the lowest stage with an area; the row leaves the area.
+    /// Redoes the top row of the lowest stage with an area, if there is one; the row leaves the area.
     fn redo<T: Tone, S: Selector>(&mut self, selector: &mut S, memory: &mut [T::Row])
         requires order { S.Selector.ordered selector.old }
         requires codes { T.Tone.kind.count ≤ S.Selector.range selector.old }
@@ -76,7 +32,15 @@ impl Sheet {
         ensures range_kept { S.Selector.range selector.new ≡ S.Selector.range selector.old }
         ensures in_order { S.Selector.ordered selector.new }
     {
-        self.make_next::<T, S>(selector, memory);
+        let Some((stage, rect)) = self.lowest() else {
+            return;
+        };
+        let size = self.size();
+        let window = Window::of(&self.recipe.stages()[stage - 1]);
+        let (from, into) = (size.start(stage - 1), size.start(stage));
+        stage_row::<T, S>(
+            selector, &window, size, memory, from, into, rect.top, rect.left, rect.right,
+        );
         self.areas.drop_row();
     }
 
