@@ -2,7 +2,7 @@
 
 ghost use Rattle.std.specs.Prelude.{◌≡◌, ◌≤◌, length, Some, OnOk};
 ghost use Rattle.calls.specs.Calls.{done};
-ghost use Rattle.calls.specs.Opening.{fresh, limits, open_refusal};
+ghost use Rattle.calls.specs.Opening.{fresh, open_refusal};
 ghost use Rattle.calls.specs.Outcomes.{done_unless, kept_if};
 ghost use Rattle.calls.specs.Promise.{Promise};
 ghost use Rattle.cards.specs.Meanings.{InOrder, notes, state_of};
@@ -11,6 +11,7 @@ ghost use Rattle.planes.specs.declared.size.Size.{Size};
 use crate::card::Card;
 use crate::operations::fits;
 use calls::refusals::Refusal;
+use planes::frame::Frame;
 use planes::size::Size;
 use selectors::Selector;
 use sheets::sheet::Sheet;
@@ -33,10 +34,11 @@ impl<T: Tone, S: Selector> Card<T, S> {
         ensures in_order { InOrder T.Tone.kind S.Selector.range S.Selector.ordered self.old → InOrder T.Tone.kind S.Selector.range S.Selector.ordered self.new }
         ensures promise { OnOk result (Promise T.Tone.kind (record { width = width; height = height }) stages (state_of S.Selector.weight self.new memory.now)) }
     {
-        if !within_limits(width, height, stages) {
+        let frame = Frame::checked(Size { width, height }).ok_or(Refusal::Size)?;
+        if !(1..=8).contains(&stages) {
             return Err(Refusal::Size);
         }
-        let sheet = Sheet::fresh(Size { width, height }, stages);
+        let sheet = Sheet::fresh(frame, stages);
         fits(&sheet, memory)?;
         if self.selector.range() < T::count() {
             return Err(Refusal::Range);
@@ -44,11 +46,4 @@ impl<T: Tone, S: Selector> Card<T, S> {
         self.sheet = Some(sheet);
         Ok(())
     }
-}
-
-/// Whether the width is from 1 to 1,024, the height from 1 to 256, and the number of stages from 1 to 8.
-fn within_limits(width: usize, height: usize, stages: usize) -> bool
-    ensures { result ≡ limits width height stages }
-{
-    (1..=1024).contains(&width) && (1..=256).contains(&height) && (1..=8).contains(&stages)
 }

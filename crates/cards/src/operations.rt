@@ -88,7 +88,7 @@ impl<T: Tone, S: Selector> Card<T, S> {
     {
         let sheet = self.sheet.as_ref().ok_or(Refusal::Unopened)?;
         fits(sheet, memory)?;
-        Rect::on(sheet.size(), x, y, n, 1).ok_or(Refusal::Outside)?;
+        Rect::on(sheet.frame().size, x, y, n, 1).ok_or(Refusal::Outside)?;
         if let Some(column) = sheet.first_met(x, y, n) {
             return Err(Refusal::Stale(column));
         }

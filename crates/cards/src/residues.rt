@@ -19,7 +19,7 @@ impl<S: Selector> Card<Grey, S> {
     {
         let sheet = self.sheet.as_ref().ok_or(Refusal::Unopened)?;
         fits(sheet, memory)?;
-        if reliefs.len() != sheet.size().area() {
+        if reliefs.len() != sheet.frame().area() {
             return Err(Refusal::Count);
         }
         if sheet.rows_left() > 0 {

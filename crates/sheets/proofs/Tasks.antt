@@ -61,23 +61,23 @@ module _ {T R : Type 0} (K : Kind T R) (n : Notes) (k : ℕ) (r : Rect) (s : Sta
   after : suc (k - 1) ≡ k
   after = let h = (lowest_is 1 n.areas k r is).from in omega (arith, h)
 
-  -- from the plane that begins at one place into the one that begins at another
-  module _ (size : Size) (t : Stage) (from into : ℕ) (sized : size ≡ n.size) (same : t ≡ s) (reads : from ≡ start size (k - 1)) (m : List R) where
-    pub made_by : (new : List R) → into ≡ start size k → new ≡ row_made K size t from m r.top r.left r.right into → new ≡ task_made K n.size (task n) m
-    made_by new writes h =
+  -- by a pass from the plane below into its own
+  module _ (size : Size) (t : Stage) (from : ℕ) (sized : size ≡ n.size) (same : t ≡ s) (reads : from ≡ start n.size (k - 1)) (m : List R) where
+    pub made_by : (into : ℕ) (new : List R) → into ≡ start n.size k → new ≡ row_made K size t from m r.top r.left r.right into → new ≡ task_made K n.size (task n) m
+    made_by into new writes h =
         h
-        ∙ (ap (λ i. row_made K size t i m r.top r.left r.right into) reads
-        ∙ (ap (λ u. row_made K size u (start size (k - 1)) m r.top r.left r.right into) same
-        ∙ (ap (λ i. row_made K size s (start size (k - 1)) m r.top r.left r.right i) (writes ∙ ap (start size) (sym after))
-        ∙ (ap (λ z. task_made K z (Some (record { stage = s; below = k - 1; area = r })) m) sized
+        ∙ (ap (λ z. row_made K z t from m r.top r.left r.right into) sized
+        ∙ (ap (λ i. row_made K n.size t i m r.top r.left r.right into) reads
+        ∙ (ap (λ u. row_made K n.size u (start n.size (k - 1)) m r.top r.left r.right into) same
+        ∙ (ap (λ i. row_made K n.size s (start n.size (k - 1)) m r.top r.left r.right i) (writes ∙ ap (start n.size) (sym after))
         ∙ ap (λ u. task_made K n.size u m) (sym the_task)))))
 
     pub weighed_by : (before : ℕ → ℕ) (c new : ℕ) → new ≡ row_weights K size t from m r.top r.left r.right before c → new ≡ task_weights K n.size (task n) m before c
     weighed_by before c new h =
         h
-        ∙ (ap (λ i. row_weights K size t i m r.top r.left r.right before c) reads
-        ∙ (ap (λ u. row_weights K size u (start size (k - 1)) m r.top r.left r.right before c) same
-        ∙ (ap (λ z. task_weights K z (Some (record { stage = s; below = k - 1; area = r })) m before c) sized
+        ∙ (ap (λ z. row_weights K z t from m r.top r.left r.right before c) sized
+        ∙ (ap (λ i. row_weights K n.size t i m r.top r.left r.right before c) reads
+        ∙ (ap (λ u. row_weights K n.size u (start n.size (k - 1)) m r.top r.left r.right before c) same
         ∙ ap (λ u. task_weights K n.size u m before c) (sym the_task))))
 
 -- the lowest stage with an area, of a sheet
@@ -90,8 +90,8 @@ stands s k r is =
       from = least;
       to = most;
       fits = drop_fits s.areas k r is;
-      apart = rw next at (plane_within s.areas.size (k - 1) (k - 1) (le_refl (k - 1)));
-      within = plane_within s.areas.size k s.most (omega (arith, most, s.fits));
+      apart = rw next at (plane_within s.areas.frame.size (k - 1) (k - 1) (le_refl (k - 1)));
+      within = plane_within s.areas.frame.size k s.most (omega (arith, most, s.fits));
     }
 
 pub stood : (s : Sheet) (o : Option (ℕ × Rect)) → o ≡ lowest (listed s.areas) → IfSome o (λ p. Stands s p.0 p.1)

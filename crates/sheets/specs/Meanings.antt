@@ -9,7 +9,7 @@ use Rattle.calls.specs.Calls.{Notes, Open, room}
 use Rattle.sheets.specs.declared.sheet.Sheet.{Sheet}
 
 abbrev pub notes_of : Sheet → Notes
-notes_of s = record { size = s.areas.size; most = s.most; recipe = staged s.recipe; areas = listed s.areas }
+notes_of s = record { size = s.areas.frame.size; most = s.most; recipe = staged s.recipe; areas = listed s.areas }
 
 -- a sheet with the weights of a selector and with memory
 abbrev pub open_of : {R : Type 0} → Sheet → (ℕ → ℕ) → List R → Open R
@@ -19,6 +19,6 @@ open_of s w m = record { notes = notes_of s; weights = w; memory = m }
 pub record Stands (s : Sheet) (stage : ℕ) (rect : Rect) : Type 0 where
   pub from : 1 ≤ stage
   pub to : stage ≤ length (staged s.recipe)
-  pub fits : Fits s.areas.size rect
-  pub apart : start s.areas.size (stage - 1) + area s.areas.size ≤ start s.areas.size stage
-  pub within : start s.areas.size stage + area s.areas.size ≤ room (notes_of s)
+  pub fits : Fits s.areas.frame.size rect
+  pub apart : start s.areas.frame.size (stage - 1) + area s.areas.frame.size ≤ start s.areas.frame.size stage
+  pub within : start s.areas.frame.size stage + area s.areas.frame.size ≤ room (notes_of s)

@@ -8,7 +8,6 @@ ghost use Rattle.calls.specs.Calls.Call.{Install, Patch};
 ghost use Rattle.calls.specs.Calls.{done, room};
 ghost use Rattle.calls.specs.Outcomes.{after_open, answer_open, with_areas, with_recipe};
 ghost use Rattle.calls.specs.Opening.{fresh};
-ghost use Rattle.planes.specs.Sizes.{Limits};
 ghost use Rattle.recipes.specs.Recipes.{staged};
 ghost use Rattle.sheets.specs.Meanings.{notes_of, open_of};
 
@@ -17,22 +16,21 @@ use crate::sheet::Sheet;
 use areas::areas::Areas;
 use areas::rect::Rect;
 use calls::refusals::Refusal;
-use planes::size::Size;
+use planes::frame::Frame;
 use recipes::draft::Draft;
 use recipes::recipe::Recipe;
 use tones::Tone;
 
 impl Sheet {
     /// The sheet of a card just opened: an empty recipe, nothing stale.
-    pub fn fresh(size: Size, most: usize) -> Sheet
-        requires size { Limits size }
-        requires few { most ≤ 8 }
-        ensures { notes_of result ≡ fresh size.width size.height most }
+    pub fn fresh(frame: Frame, most: usize) -> Sheet
+        requires { most ≤ 8 }
+        ensures { notes_of result ≡ fresh frame.size.width frame.size.height most }
     {
         Sheet {
             most,
             recipe: Recipe::empty(),
-            areas: Areas::none(size),
+            areas: Areas::none(frame),
         }
     }
 
@@ -41,7 +39,7 @@ impl Sheet {
         requires { length (staged recipe) ≤ self.old.most }
         ensures { notes_of self.new ≡ with_recipe (notes_of self.old) (staged recipe) }
     {
-        self.areas = Areas::all_stale(self.size(), recipe.stages());
+        self.areas = Areas::all_stale(self.frame(), recipe.stages());
         self.recipe = recipe;
     }
 
@@ -69,12 +67,12 @@ impl Sheet {
         ensures notes { (w : ℕ → ℕ) → notes_of self.new ≡ (after_open T.Tone.kind (open_of self.old w memory.old) (Patch x y width height tones.now)).notes }
         ensures memory { (w : ℕ → ℕ) → memory.new ≡ (after_open T.Tone.kind (open_of self.old w memory.old) (Patch x y width height tones.now)).memory }
     {
-        let size = self.size();
-        let rect = Rect::on(size, x, y, width, height).ok_or(Refusal::Outside)?;
+        let frame = self.frame();
+        let rect = Rect::on(frame.size, x, y, width, height).ok_or(Refusal::Outside)?;
         if tones.len() != width * height {
             return Err(Refusal::Count);
         }
-        lay::<T>(memory, size, rect, tones);
+        lay::<T>(memory, frame, rect, tones);
         self.spread(rect);
         Ok(())
     }

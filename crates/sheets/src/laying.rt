@@ -3,10 +3,10 @@
 ghost use Rattle.std.specs.Prelude.{◌≡◌, ℕ, ◌+◌, ◌-◌, ◌*◌, ◌<◌, ◌≤◌, map, length};
 ghost use Rattle.areas.specs.Rects.{Fits};
 ghost use Rattle.calls.specs.Outcomes.{laid};
-ghost use Rattle.planes.specs.Sizes.{Limits, area};
+ghost use Rattle.planes.specs.Sizes.{area};
 
 use areas::rect::Rect;
-use planes::size::Size;
+use planes::frame::Frame;
 use tones::Tone;
 
 /// Writes tones over places of the memory, each as the row of the tone that it counts as.
@@ -21,16 +21,15 @@ fn lay_row<T: Tone>(places: &mut [T::Row], tones: &[T::Row])
 }
 
 /// Lays the tones of a patch over a rectangle of plane 0, row by row.
-pub(crate) fn lay<T: Tone>(memory: &mut [T::Row], size: Size, rect: Rect, tones: &[T::Row])
-    requires size { Limits size }
-    requires rect { Fits size rect }
+pub(crate) fn lay<T: Tone>(memory: &mut [T::Row], frame: Frame, rect: Rect, tones: &[T::Row])
+    requires rect { Fits frame.size rect }
     requires count { length tones.now ≡ (rect.right - rect.left) * (rect.bottom - rect.top) }
-    requires room { area size ≤ length memory.old }
-    ensures { memory.new ≡ laid T.kind size rect.left rect.top (rect.right - rect.left) tones.now memory.old (rect.bottom - rect.top) }
+    requires room { area frame.size ≤ length memory.old }
+    ensures { memory.new ≡ laid T.kind frame.size rect.left rect.top (rect.right - rect.left) tones.now memory.old (rect.bottom - rect.top) }
 {
     let width = rect.right - rect.left;
     for (row, y) in tones.chunks(width).zip(rect.top..rect.bottom) {
-        let at = size.cell(rect.left, y);
+        let at = frame.cell(rect.left, y);
         lay_row::<T>(&mut memory[at..at + row.len()], row);
     }
 }

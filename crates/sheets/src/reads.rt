@@ -3,34 +3,33 @@
 ghost use Rattle.std.specs.Prelude.{◌≡◌, ◌+◌, ◌-◌, ◌<◌, ◌≤◌, length, IfSome};
 ghost use Rattle.areas.specs.Areas.{lowest, stale_rows, next_of, last_area, met};
 ghost use Rattle.calls.specs.Calls.{room};
-ghost use Rattle.planes.specs.Sizes.{Limits, cell, start};
+ghost use Rattle.planes.specs.Sizes.{cell, start};
 ghost use Rattle.sheets.specs.Meanings.{Stands, notes_of};
 
 use crate::sheet::Sheet;
 use areas::rect::Rect;
-use planes::size::Size;
+use planes::frame::Frame;
 
 impl Sheet {
-    /// The size of the card.
-    pub fn size(&self) -> Size
-        ensures value { result ≡ (notes_of self.now).size }
-        ensures limits { Limits result }
+    /// The size of the card, within its limits.
+    pub fn frame(&self) -> Frame
+        ensures { result.size ≡ (notes_of self.now).size }
     {
-        self.areas.size()
+        self.areas.frame()
     }
 
     /// The rows of the memory: one plane more than stages.
     pub fn room(&self) -> usize
         ensures { result ≡ room (notes_of self.now) }
     {
-        self.size().start(self.most + 1)
+        self.frame().start(self.most + 1)
     }
 
     /// Where the finished plane begins: that of the last stage, plane 0 without stages.
     pub fn finished(&self) -> usize
         ensures { result ≡ start (notes_of self.now).size (length (notes_of self.now).recipe) }
     {
-        self.size().start(self.recipe.len())
+        self.frame().start(self.recipe.len())
     }
 
     /// The stale rows of all stages together.
@@ -69,6 +68,6 @@ impl Sheet {
         ensures value { result ≡ start (notes_of self.now).size (length (notes_of self.now).recipe) + cell (notes_of self.now).size x y }
         ensures bound { result + ((notes_of self.now).size.width - x) ≤ room (notes_of self.now) }
     {
-        self.finished() + self.size().cell(x, y)
+        self.finished() + self.frame().cell(x, y)
     }
 }

@@ -13,10 +13,9 @@ ghost use Rattle.stages.specs.Rows.{row_made, row_weights};
 
 use crate::sheet::Sheet;
 use areas::rect::Rect;
-use planes::size::Size;
 use recipes::recipe::Stage;
 use selectors::Selector;
-use stages::rows::stage_row;
+use stages::pass::Pass;
 use stages::window::Window;
 use tones::Tone;
 
@@ -27,20 +26,19 @@ impl Sheet {
         requires codes { T.Tone.kind.count ≤ S.Selector.range selector.old }
         requires room { length memory.old ≡ room (notes_of self.old) }
         ensures notes { notes_of self.new ≡ with_areas (notes_of self.old) (dropped (listed self.old.areas)) }
-        ensures memory { memory.new ≡ task_made T.Tone.kind self.old.areas.size (task (notes_of self.old)) memory.old }
-        ensures weights { (c : ℕ) → S.Selector.weight selector.new c ≡ task_weights T.Tone.kind self.old.areas.size (task (notes_of self.old)) memory.old (S.Selector.weight selector.old) c }
+        ensures memory { memory.new ≡ task_made T.Tone.kind self.old.areas.frame.size (task (notes_of self.old)) memory.old }
+        ensures weights { (c : ℕ) → S.Selector.weight selector.new c ≡ task_weights T.Tone.kind self.old.areas.frame.size (task (notes_of self.old)) memory.old (S.Selector.weight selector.old) c }
         ensures range_kept { S.Selector.range selector.new ≡ S.Selector.range selector.old }
         ensures in_order { S.Selector.ordered selector.new }
     {
         let Some((stage, rect)) = self.lowest() else {
             return;
         };
-        let size = self.size();
+        let frame = self.frame();
         let window = Window::of(&self.recipe.stages()[stage - 1]);
-        let (from, into) = (size.start(stage - 1), size.start(stage));
-        stage_row::<T, S>(
-            selector, &window, size, memory, from, into, rect.top, rect.left, rect.right,
-        );
+        let (from, into) = (frame.start(stage - 1), frame.start(stage));
+        let pass = Pass::new(&window, frame, from, into);
+        pass.stage_row::<T, S>(selector, memory, rect.top, rect.left, rect.right);
         self.areas.drop_row();
     }
 

@@ -6,7 +6,7 @@ use Rattle.sheets.proofs.laying.lay.Given as goal
 
 abbrev pub invariant-loop-row : goal.invariant-loop-row
 invariant-loop-row g l = record {
-  done : l.memory ≡ laid g.T.Tone.kind l.size l.rect.left l.rect.top l.width l.tones l.initial.memory (length l.yielded);
+  done : l.memory ≡ laid g.T.Tone.kind l.frame.size l.rect.left l.rect.top l.width l.tones l.initial.memory (length l.yielded);
   rest : chunks_rest (zip_first l.row-iterator) ≡ drop (length l.yielded * l.width) l.tones;
   size : chunks_size (zip_first l.row-iterator) ≡ l.width;
   row : (zip_second l.row-iterator).start ≡ l.rect.top + length l.yielded;

@@ -16,7 +16,7 @@ returns-clause-outcome g c =
     let sheet = c.in_ok-sheet.sheet.now in
     let o = open_of sheet w m in
     let tones = c.args.tones.now in
-    let refusal = patch_refusal (rect_on sheet.areas.size c.args.x c.args.y c.args.width c.args.height) (c.args.width * c.args.height) (length tones) in
+    let refusal = patch_refusal (rect_on sheet.areas.frame.size c.args.x c.args.y c.args.width c.args.height) (c.args.width * c.args.height) (length tones) in
     let is : c.args.self.now.sheet ≡ Some sheet = search rules in
     let long : length m ≡ room (notes_of sheet) = search rules in
     answered k _ (notes_of sheet) w m (Patch c.args.x c.args.y c.args.width c.args.height tones) _ _ (ap (option_map notes_of) is) long (c.patch.ensures.answer w) (ap Some (c.patch.ensures.notes w)) (λ code. left_alone (λ p. p.weights code) refusal o (patched k c.args.x c.args.y c.args.width c.args.height tones o) refl) (c.patch.ensures.memory w)

@@ -2,6 +2,7 @@ use Rattle.std.proofs.Common.{◌≡◌, ◌-◌, length, get_or, sym, ap, ◌�
 use Rattle.areas.proofs.Walks.{length_dropped, lowest_nothing}
 use Rattle.areas.specs.Listed.{listed}
 use Rattle.calls.specs.Outcomes.{task_made, task_weights, with_areas}
+use Rattle.planes.specs.Sizes.{start}
 use Rattle.sheets.specs.Meanings.{notes_of}
 use Rattle.sheets.proofs.Tasks.{task_none, made_by, weighed_by}
 use Rattle.sheets.proofs.sheet.Sheet.redo.Goals as goal
@@ -12,11 +13,11 @@ returns-in_default-clause-notes g c =
 
 pub returns-in_default-clause-memory : goal.returns-in_default-clause-memory
 returns-in_default-clause-memory g c =
-    let s = c.args.self.now in sym (ap (λ t. task_made g.T.Tone.kind s.areas.size t c.args.memory.now) (task_none 0 1 (notes_of s).recipe (notes_of s).areas (sym c.in_default.ensures.answer)))
+    let s = c.args.self.now in sym (ap (λ t. task_made g.T.Tone.kind s.areas.frame.size t c.args.memory.now) (task_none 0 1 (notes_of s).recipe (notes_of s).areas (sym c.in_default.ensures.answer)))
 
 pub returns-in_default-clause-weights : goal.returns-in_default-clause-weights
 returns-in_default-clause-weights g c =
-    let s = c.args.self.now in λ d. sym (ap (λ t. task_weights g.T.Tone.kind s.areas.size t c.args.memory.now (g.S.Selector.weight c.args.selector.now) d) (task_none 0 1 (notes_of s).recipe (notes_of s).areas (sym c.in_default.ensures.answer)))
+    let s = c.args.self.now in λ d. sym (ap (λ t. task_weights g.T.Tone.kind s.areas.frame.size t c.args.memory.now (g.S.Selector.weight c.args.selector.now) d) (task_none 0 1 (notes_of s).recipe (notes_of s).areas (sym c.in_default.ensures.answer)))
 
 pub invariant_of-self-clause-matched : goal.invariant_of-self-clause-matched
 invariant_of-self-clause-matched g c =
@@ -25,13 +26,24 @@ invariant_of-self-clause-matched g c =
 pub returns-clause-memory : goal.returns-clause-memory
 returns-clause-memory g c =
     let s = c.args.self.now in
+    let k = c.in-Some.stage in
     let stage = c.index-stages-stage.result in
-    let at : stage ≡ get_or (notes_of s).recipe (c.in-Some.stage - 1) stage = cc in
-    made_by g.T.Tone.kind (notes_of s) c.in-Some.stage c.in-Some.rect stage s.matched (sym c.in-Some.ensures.answer) at _ _ _ _ c.size-size.ensures.value c.of-window.ensures c.start-from.ensures.value c.args.memory.now _ c.start-into.ensures.value c.stage_row.ensures.memory
+    let pass = c.new-pass.result in
+    let at : stage ≡ get_or (notes_of s).recipe (k - 1) stage = cc in
+    let sized = ap (λ f. f.size) c.new-pass.ensures.frame ∙ c.frame-frame.ensures in
+    let same = ap (λ w. w.stage) c.new-pass.ensures.window ∙ c.of-window.ensures in
+    let reads = c.new-pass.ensures.planes.0 ∙ (c.start-from.ensures.value ∙ ap (λ z. start z (k - 1)) c.frame-frame.ensures) in
+    let writes = c.new-pass.ensures.planes.1 ∙ (c.start-into.ensures.value ∙ ap (λ z. start z k) c.frame-frame.ensures) in
+    made_by g.T.Tone.kind (notes_of s) k c.in-Some.rect stage s.matched (sym c.in-Some.ensures.answer) at pass.frame.size pass.window.now.stage pass.from sized same reads c.args.memory.now pass.into _ writes c.stage_row.ensures.memory
 
 pub returns-clause-weights : goal.returns-clause-weights
 returns-clause-weights g c =
     let s = c.args.self.now in
+    let k = c.in-Some.stage in
     let stage = c.index-stages-stage.result in
-    let at : stage ≡ get_or (notes_of s).recipe (c.in-Some.stage - 1) stage = cc in
-    λ d. weighed_by g.T.Tone.kind (notes_of s) c.in-Some.stage c.in-Some.rect stage s.matched (sym c.in-Some.ensures.answer) at _ _ _ c.start-into.result c.size-size.ensures.value c.of-window.ensures c.start-from.ensures.value c.args.memory.now (g.S.Selector.weight c.args.selector.now) d _ (c.stage_row.ensures.weights d)
+    let pass = c.new-pass.result in
+    let at : stage ≡ get_or (notes_of s).recipe (k - 1) stage = cc in
+    let sized = ap (λ f. f.size) c.new-pass.ensures.frame ∙ c.frame-frame.ensures in
+    let same = ap (λ w. w.stage) c.new-pass.ensures.window ∙ c.of-window.ensures in
+    let reads = c.new-pass.ensures.planes.0 ∙ (c.start-from.ensures.value ∙ ap (λ z. start z (k - 1)) c.frame-frame.ensures) in
+    λ d. weighed_by g.T.Tone.kind (notes_of s) k c.in-Some.rect stage s.matched (sym c.in-Some.ensures.answer) at pass.frame.size pass.window.now.stage pass.from sized same reads c.args.memory.now (g.S.Selector.weight c.args.selector.now) d _ (c.stage_row.ensures.weights d)

@@ -5,4 +5,4 @@ use Rattle.sheets.proofs.sheet.Sheet.spread.Goals as goal
 
 pub invariant_of-self-clause-matched : goal.invariant_of-self-clause-matched
 invariant_of-self-clause-matched c =
-    let s = c.args.self.now in ap length c.spread.ensures.areas ∙ (length_spread s.areas.size c.stages.result.now c.args.rect (listed s.areas) ∙ s.matched)
+    let s = c.args.self.now in ap length c.spread.ensures.areas ∙ (length_spread s.areas.frame.size c.stages.result.now c.args.rect (listed s.areas) ∙ s.matched)

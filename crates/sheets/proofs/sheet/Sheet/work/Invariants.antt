@@ -8,8 +8,10 @@ invariant-loop-done g l =
     let s = g.S.Selector in
     let k = g.T.Tone.kind in
     let from = open_of l.initial.self (s.weight l.initial.selector) l.initial.memory in
-    s.ordered l.selector
-    × (s.range l.selector ≡ s.range l.initial.selector)
-    × (notes_of l.self ≡ (redone_rows k l._done from).notes)
-    × (l.memory ≡ (redone_rows k l._done from).memory)
-    × ((c : ℕ) → s.weight l.selector c ≡ (redone_rows k l._done from).weights c)
+    record {
+      in_order : s.ordered l.selector;
+      range_kept : s.range l.selector ≡ s.range l.initial.selector;
+      notes : notes_of l.self ≡ (redone_rows k l._done from).notes;
+      memory : l.memory ≡ (redone_rows k l._done from).memory;
+      weights : (c : ℕ) → s.weight l.selector c ≡ (redone_rows k l._done from).weights c;
+    }
