@@ -1,5 +1,5 @@
 -- What the calls on an element and on a draft answer and leave. Assumes nothing.
-use Rattle.std.specs.Prelude.{◌≡◌, ℕ, cond, List, [], ◌∷◌, ◌++◌, map, is_ok, Some, None, Option}
+use Rattle.std.specs.Prelude.{◌≡◌, ℕ, cond, List, [], ◌∷◌, ◌++◌, map, is_ok, Some, None, Ok, Err, Result, Option}
 use Rattle.recipes.specs.Drafts.{letter_of, step_answer, step_after, steps_of}
 use Rattle.recipes.specs.Edits.{place_answer, amount_answer, order_answer}
 use Rattle.recipes.specs.Places.{origin, amended}
@@ -10,15 +10,17 @@ use Rattle.recipes.specs.declared.element.Element.{Element as Shape}
 use Rattle.recipes.specs.declared.places.Place.{Place as Spot}
 use Rattle.lines.specs.Told.{element_told, step_told}
 use Rattle.lines.specs.declared.answers.Answer.{Answer}
-use Rattle.lines.specs.declared.answers.Answer.TheVariants.{Done, Unknown}
+use Rattle.lines.specs.declared.answers.Answer.TheVariants.{Done}
+use Rattle.lines.specs.declared.answers.Fault.{Fault}
+use Rattle.lines.specs.declared.answers.Fault.TheVariants.{Unknown}
 use Rattle.lines.specs.declared.commands.Drafting.{Drafting}
 use Rattle.lines.specs.declared.commands.Drafting.TheVariants.{Begin, Step}
 use Rattle.lines.specs.declared.commands.Edit.{Edit}
 use Rattle.lines.specs.declared.commands.Edit.TheVariants.{Element, Place, Amount, Order, Standard}
 
 -- the answer to a call on an element of these places
-abbrev pub edit_answer : List Spot → Edit → Answer
-edit_answer ps Element = Done
+abbrev pub edit_answer : List Spot → Edit → Result Answer Fault
+edit_answer ps Element = Ok Done
 edit_answer ps (Place dx dy p a) = element_told (place_answer ps dx dy a)
 edit_answer ps (Amount dx dy a) = element_told (amount_answer ps dx dy a)
 edit_answer ps (Order k) = element_told (order_answer ps k)
@@ -46,11 +48,11 @@ IsDraft (Some d) ss n = (steps_of d ≡ ss) × (d.declared ≡ n)
 IsDraft None ss n = ⊥
 
 -- a step on the present draft with an element
-abbrev pub Stepped : Option Draft → Shape → ℕ → Option Draft → Answer → Type 0
-Stepped None e l after r = (after ≡ None) × (r ≡ Unknown)
+abbrev pub Stepped : Option Draft → Shape → ℕ → Option Draft → Result Answer Fault → Type 0
+Stepped None e l after r = (after ≡ None) × (r ≡ Err Unknown)
 Stepped (Some d) e l after r = IsDraft after (step_after (letter_of l) e (steps_of d) d.declared) d.declared × (r ≡ step_told (step_answer (letter_of l) (steps_of d) d.declared))
 
 -- each call on the present draft
-abbrev pub Drafted : Option Draft → Shape → Drafting → Option Draft → Answer → Type 0
-Drafted before e (Begin n) after r = IsDraft after [] n × (r ≡ Done)
+abbrev pub Drafted : Option Draft → Shape → Drafting → Option Draft → Result Answer Fault → Type 0
+Drafted before e (Begin n) after r = IsDraft after [] n × (r ≡ Ok Done)
 Drafted before e (Step l) after r = Stepped before e l after r

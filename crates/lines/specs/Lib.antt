@@ -1,5 +1,5 @@
 pub mod Desks
 pub mod Lines
-pub mod Played
+pub mod Shown
 pub mod Told
 pub mod Words

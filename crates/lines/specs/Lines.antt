@@ -1,7 +1,10 @@
 -- What the name of a line and the words after it say. Assumes nothing.
-use Rattle.std.specs.Prelude.{◌≡◌, ℕ, ◌≤◌, List, length, codes}
+use Rattle.std.specs.Prelude.{◌≡◌, ℕ, ◌≤◌, List, length, drop, codes}
 use Rattle.std.specs.Int.{w32}
-use Rattle.lines.specs.Words.{Rest, Natural, Integer, word, tones_name, ranker_name, part_name}
+use Rattle.selectors.specs.Played.{name_of}
+use Rattle.selectors.specs.declared.calls.Call.{Call as SelectorCall}
+use Rattle.selectors.specs.declared.calls.Call.TheVariants.{Put, Total, Select, Empty}
+use Rattle.lines.specs.Words.{Rest, Natural, Integer, word, tones_name, part_name}
 use Rattle.std.proofs.Math.Utf8.{encode}
 use Rattle.lines.specs.declared.commands.Choice.{Choice}
 use Rattle.lines.specs.declared.commands.Edit.{Edit}
@@ -10,8 +13,6 @@ use Rattle.lines.specs.declared.commands.Drafting.{Drafting}
 use Rattle.lines.specs.declared.commands.Drafting.TheVariants.{Begin, Step}
 use Rattle.lines.specs.declared.commands.Call.{Call}
 use Rattle.lines.specs.declared.commands.Call.TheVariants.{Open, Install, Patch, Work, Row, Left, Due, Residue, Load, Tone}
-use Rattle.lines.specs.declared.commands.Ranking.{Ranking}
-use Rattle.lines.specs.declared.commands.Ranking.TheVariants.{Put, Total, Select, Empty}
 use Rattle.lines.specs.declared.commands.Command.{Command}
 use Rattle.lines.specs.declared.commands.Command.TheVariants.{Choose, OnElement, OnDraft, OnCard, OnSelector}
 
@@ -25,7 +26,7 @@ Begins name ws this n = (name ≡ this) × (n ≤ length ws)
 
 -- a card is chosen
 abbrev pub Chooses : List ℕ → Rest → Choice → Type 0
-Chooses name ws c = Named name ws (codes "card") 2 × (word ws 0 ≡ tones_name c.tones) × (word ws 1 ≡ ranker_name c.ranker)
+Chooses name ws c = Named name ws (codes "card") 2 × (word ws 0 ≡ tones_name c.tones) × (word ws 1 ≡ name_of c.selector)
 
 -- a call on an element
 abbrev pub Edits : List ℕ → Rest → Edit → Type 0
@@ -40,21 +41,21 @@ abbrev pub Drafts : List ℕ → Rest → Drafting → Type 0
 Drafts name ws (Begin n) = Named name ws (codes "begin") 1 × Natural 64 (word ws 0) n
 Drafts name ws (Step l) = Named name ws (codes "step") 1 × (word ws 0 ≡ encode l)
 
--- a call on a card, but for the rows of open and patch, the parts of a tone and the path of a file
+-- a call on a card: the words of the rows of open and patch, of the parts of a tone, and the path of a file come last
 abbrev pub Calls : List ℕ → Rest → Call → Type 0
-Calls name ws (Open w h g) = Begins name ws (codes "open") 3 × Natural 64 (word ws 0) w × Natural 64 (word ws 1) h × Natural 64 (word ws 2) g
+Calls name ws (Open o rows) = Begins name ws (codes "open") 3 × Natural 64 (word ws 0) o.width × Natural 64 (word ws 1) o.height × Natural 64 (word ws 2) o.stages × (rows.now ≡ drop 3 ws)
 Calls name ws Install = Named name ws (codes "install") 0
-Calls name ws (Patch x y w h) = Begins name ws (codes "patch") 4 × Natural 64 (word ws 0) x × Natural 64 (word ws 1) y × Natural 64 (word ws 2) w × Natural 64 (word ws 3) h
+Calls name ws (Patch p rows) = Begins name ws (codes "patch") 4 × Natural 64 (word ws 0) p.x × Natural 64 (word ws 1) p.y × Natural 64 (word ws 2) p.width × Natural 64 (word ws 3) p.height × (rows.now ≡ drop 4 ws)
 Calls name ws (Work b) = Named name ws (codes "work") 1 × Natural 64 (word ws 0) b
 Calls name ws (Row x y n) = Named name ws (codes "row") 3 × Natural 64 (word ws 0) x × Natural 64 (word ws 1) y × Natural 64 (word ws 2) n
 Calls name ws Left = Named name ws (codes "left") 0
 Calls name ws Due = Named name ws (codes "due") 0
 Calls name ws Residue = Named name ws (codes "residue") 0
-Calls name ws (Load x y) = Named name ws (codes "load") 3 × Natural 64 (word ws 0) x × Natural 64 (word ws 1) y
-Calls name ws Tone = name ≡ codes "tone"
+Calls name ws (Load x y path) = Named name ws (codes "load") 3 × Natural 64 (word ws 0) x × Natural 64 (word ws 1) y × (path.now ≡ word ws 2)
+Calls name ws (Tone parts) = (name ≡ codes "tone") × (parts.now ≡ ws)
 
 -- a call on a selector
-abbrev pub Ranks : List ℕ → Rest → Ranking → Type 0
+abbrev pub Ranks : List ℕ → Rest → SelectorCall → Type 0
 Ranks name ws (Put c a) = Named name ws (codes "put") 2 × Natural 32 (word ws 0) c × Natural 32 (word ws 1) a
 Ranks name ws Total = Named name ws (codes "total") 0
 Ranks name ws (Select r) = Named name ws (codes "select") 1 × Natural 32 (word ws 0) r
@@ -67,16 +68,3 @@ Says name ws (OnElement e) = Edits name ws e
 Says name ws (OnDraft d) = Drafts name ws d
 Says name ws (OnCard c) = Calls name ws c
 Says name ws (OnSelector r) = Ranks name ws r
-
--- how many words after the name come before rows, the parts of a tone or a path
-abbrev pub rows_from : Call → ℕ
-rows_from (Open w h g) = 3
-rows_from Install = 0
-rows_from (Patch x y w h) = 4
-rows_from (Work b) = 0
-rows_from (Row x y n) = 0
-rows_from Left = 0
-rows_from Due = 0
-rows_from Residue = 0
-rows_from (Load x y) = 2
-rows_from Tone = 0

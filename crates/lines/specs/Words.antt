@@ -7,8 +7,6 @@ use Rattle.recipes.specs.declared.places.Part.{Part}
 use Rattle.recipes.specs.declared.places.Part.TheVariants.{Core, Soft}
 use Rattle.lines.specs.declared.commands.Tones.{Tones}
 use Rattle.lines.specs.declared.commands.Tones.TheVariants.{Mark, Grey, Relief, Colour}
-use Rattle.lines.specs.declared.commands.Ranker.{Ranker}
-use Rattle.lines.specs.declared.commands.Ranker.TheVariants.{Gate, Histogram, Ladder}
 
 -- what a type reads in a word: the value, or nothing where it reads none
 abbrev pub Read : {N E : Type 0} → (List ℕ → Result N E → Type 0) → List ℕ → Option N → Type 0
@@ -37,12 +35,6 @@ tones_name Mark = codes "mark"
 tones_name Grey = codes "grey"
 tones_name Relief = codes "relief"
 tones_name Colour = codes "colour"
-
--- the name of each selector
-abbrev pub ranker_name : Ranker → List ℕ
-ranker_name Gate = codes "gate"
-ranker_name Histogram = codes "histogram"
-ranker_name Ladder = codes "ladder"
 
 -- the name of each part
 abbrev pub part_name : Part → List ℕ

@@ -1,24 +1,17 @@
-//! What the program answers.
+//! What the program answers, and why a line has no answer.
 
-ghost use Rattle.std.specs.Prelude.{◌≡◌};
-ghost use Rattle.lines.specs.Told.{call_told, due_told, element_told, refusal_told, step_told, work_told};
+ghost use Rattle.std.specs.Prelude.{◌≡◌, Some};
+ghost use Rattle.lines.specs.Shown.{answer_line, fault_line};
+ghost use Rattle.lines.specs.Told.{reply_answer};
+ghost use Rattle.lines.specs.declared.answers.Fault.TheVariants as fault;
 
 use calls::refusals::Refusal;
+use cards::faults::LoadFault;
 use recipes::refusals::{DraftRefusal, ElementRefusal};
+use selectors::calls::{CallRefusal, Reply};
+use std::alloc::AllocError;
 use std::fmt;
-
-/// How a refusal is told.
-#[derive(Clone, Copy)]
-pub enum Fault {
-    /// The refusal's number.
-    Number(u32),
-    /// The number, and the first stale column met.
-    Stale(u32, usize),
-    /// A file's number, the letter of its fault and the byte.
-    File(u32, char, usize),
-    /// The number of a card's refusal of a file, and the spot.
-    Card(u32, usize),
-}
+use tones::ToneRefusal;
 
 /// An answer: a line.
 #[derive(Drop)]
@@ -31,100 +24,136 @@ pub enum Answer {
     Rows(String),
     /// A number that is never refused.
     Number(u64),
-    /// The stage and the row that are redone next.
-    Due(usize, usize),
-    /// No row is to be redone.
-    Nothing,
-    /// The call was refused.
-    Refused(Fault),
-    /// The line was not read.
-    Unknown,
+    /// The stage and the row that are redone next, if there are any.
+    Due(Option<(usize, usize)>),
 }
 
-impl fmt::Display for Fault {
-    fn fmt<W: fmt::Write>(&self, f: &mut fmt::Formatter<W>) -> fmt::Result {
-        match *self {
-            Fault::Number(number) => write!(f, "refused {number}"),
-            Fault::Stale(number, column) => write!(f, "refused {number} {column}"),
-            Fault::File(number, letter, byte) => {
-                write!(f, "refused load file {number} {letter} {byte}")
-            }
-            Fault::Card(number, spot) => write!(f, "refused load card {number} {spot}"),
+impl From<Reply> for Answer {
+    ghost from_gives = { λ r a. a ≡ reply_answer r };
+
+    fn from(reply: Reply) -> Answer {
+        match reply {
+            Reply::Done => Answer::Done,
+            Reply::Total(total) => Answer::Number(total as u64),
+            Reply::Code(code) => Answer::Counted(code as u64),
         }
     }
 }
 
 impl fmt::Display for Answer {
+    ghost output = { λ a. Some (answer_line a) };
+
     fn fmt<W: fmt::Write>(&self, f: &mut fmt::Formatter<W>) -> fmt::Result {
         match self {
             Answer::Done => write!(f, "ok"),
             Answer::Counted(number) => write!(f, "ok {number}"),
             Answer::Rows(rows) => write!(f, "ok{rows}"),
             Answer::Number(number) => write!(f, "{number}"),
-            Answer::Due(stage, row) => write!(f, "{stage} {row}"),
-            Answer::Nothing => write!(f, "nothing"),
-            Answer::Refused(fault) => write!(f, "{fault}"),
-            Answer::Unknown => write!(f, "unknown"),
+            Answer::Due(Some((stage, row))) => write!(f, "{stage} {row}"),
+            Answer::Due(None) => write!(f, "nothing"),
         }
     }
 }
 
-/// What a card's refusal tells.
-pub fn refusal_told(refusal: Refusal) -> Answer
-    ensures { result ≡ refusal_told refusal }
-{
-    match refusal {
-        Refusal::Stale(column) => Answer::Refused(Fault::Stale(refusal.number(), column)),
-        other => Answer::Refused(Fault::Number(other.number())),
+/// Why a line has no answer.
+#[derive(Clone, Copy)]
+pub enum Fault {
+    /// The line was not read.
+    Unknown,
+    /// A call on the element was refused.
+    Element(ElementRefusal),
+    /// A step was refused.
+    Draft(DraftRefusal),
+    /// A call on the selector was refused.
+    Selector(CallRefusal),
+    /// A call on the card was refused.
+    Card(Refusal),
+    /// A file was refused.
+    Load(LoadFault),
+    /// A tone was not made.
+    Tone(ToneRefusal),
+    /// There was no memory for the call.
+    Memory(AllocError),
+}
+
+impl From<ElementRefusal> for Fault {
+    ghost from_gives = { λ e f. f ≡ fault.Element e };
+
+    fn from(refusal: ElementRefusal) -> Fault {
+        Fault::Element(refusal)
     }
 }
 
-/// What a call on a card tells.
-pub fn call_told(res: Result<(), Refusal>) -> Answer
-    ensures { result ≡ call_told res }
-{
-    match res {
-        Ok(()) => Answer::Done,
-        Err(refusal) => refusal_told(refusal),
+impl From<DraftRefusal> for Fault {
+    ghost from_gives = { λ e f. f ≡ fault.Draft e };
+
+    fn from(refusal: DraftRefusal) -> Fault {
+        Fault::Draft(refusal)
     }
 }
 
-/// What work tells.
-pub fn work_told(res: Result<usize, Refusal>) -> Answer
-    ensures { result ≡ work_told res }
-{
-    match res {
-        Ok(rows) => Answer::Counted(rows as u64),
-        Err(refusal) => refusal_told(refusal),
+impl From<CallRefusal> for Fault {
+    ghost from_gives = { λ e f. f ≡ fault.Selector e };
+
+    fn from(refusal: CallRefusal) -> Fault {
+        Fault::Selector(refusal)
     }
 }
 
-/// What the next row tells.
-pub fn due_told(due: Option<(usize, usize)>) -> Answer
-    ensures { result ≡ due_told due }
-{
-    match due {
-        Some((stage, row)) => Answer::Due(stage, row),
-        None => Answer::Nothing,
+impl From<Refusal> for Fault {
+    ghost from_gives = { λ e f. f ≡ fault.Card e };
+
+    fn from(refusal: Refusal) -> Fault {
+        Fault::Card(refusal)
     }
 }
 
-/// What a call on an element tells.
-pub fn element_told(res: Result<(), ElementRefusal>) -> Answer
-    ensures { result ≡ element_told res }
-{
-    match res {
-        Ok(()) => Answer::Done,
-        Err(refusal) => Answer::Refused(Fault::Number(refusal.number())),
+impl From<LoadFault> for Fault {
+    ghost from_gives = { λ e f. f ≡ fault.Load e };
+
+    fn from(fault: LoadFault) -> Fault {
+        Fault::Load(fault)
     }
 }
 
-/// What a step tells.
-pub fn step_told(res: Result<(), DraftRefusal>) -> Answer
-    ensures { result ≡ step_told res }
-{
-    match res {
-        Ok(()) => Answer::Done,
-        Err(refusal) => Answer::Refused(Fault::Number(refusal.number())),
+impl From<ToneRefusal> for Fault {
+    ghost from_gives = { λ e f. f ≡ fault.Tone e };
+
+    fn from(refusal: ToneRefusal) -> Fault {
+        Fault::Tone(refusal)
+    }
+}
+
+impl From<AllocError> for Fault {
+    ghost from_gives = { λ e f. f ≡ fault.Memory e };
+
+    fn from(error: AllocError) -> Fault {
+        Fault::Memory(error)
+    }
+}
+
+impl fmt::Display for Fault {
+    ghost output = { λ e. Some (fault_line e) };
+
+    fn fmt<W: fmt::Write>(&self, f: &mut fmt::Formatter<W>) -> fmt::Result {
+        match self {
+            Fault::Unknown => write!(f, "unknown"),
+            Fault::Element(refusal) => write!(f, "refused {}", refusal.number()),
+            Fault::Draft(refusal) => write!(f, "refused {}", refusal.number()),
+            Fault::Selector(refusal) => write!(f, "refused {}", refusal.number()),
+            Fault::Card(Refusal::Stale(column)) => {
+                write!(f, "refused {} {column}", Refusal::Stale(*column).number())
+            }
+            Fault::Card(refusal) => write!(f, "refused {}", refusal.number()),
+            Fault::Load(fault) => match fault.letter() {
+                Some(letter) => {
+                    let spot = fault.spot();
+                    write!(f, "refused load file {} {letter} {spot}", fault.number())
+                }
+                None => write!(f, "refused load card {} {}", fault.number(), fault.spot()),
+            },
+            Fault::Tone(refusal) => write!(f, "refused {}", refusal.number()),
+            Fault::Memory(_) => write!(f, "no memory"),
+        }
     }
 }

@@ -1,9 +1,11 @@
 //! What a line of a script asks for.
 
 use recipes::places::Part;
+use selectors::calls::{Call as SelectorCall, Kind};
+use std::str::FromStr;
 
 /// A kind of tones.
-#[derive(Clone, Copy)]
+#[derive(Clone, Copy, PartialEq, Eq, Debug)]
 pub enum Tones {
     Mark,
     Grey,
@@ -11,19 +13,35 @@ pub enum Tones {
     Colour,
 }
 
-/// A kind of selectors.
-#[derive(Clone, Copy)]
-pub enum Ranker {
-    Gate,
-    Histogram,
-    Ladder,
+/// No tones have the name.
+#[derive(Clone, Copy, PartialEq, Eq, Debug)]
+pub struct UnknownTones;
+
+impl FromStr for Tones {
+    ghost use Rattle.std.specs.Prelude.{◌≡◌, ◌≢◌, MatchResult};
+    ghost use Rattle.lines.specs.Words.{tones_name};
+    ghost use Rattle.lines.specs.declared.commands.Tones.{Tones as Named};
+
+    type Err = UnknownTones;
+
+    ghost from_str_gives = { λ w r. MatchResult r (λ k. w ≡ tones_name k) (λ _. (k : Named) → w ≢ tones_name k) };
+
+    fn from_str(name: &str) -> Result<Tones, UnknownTones> {
+        match name {
+            "mark" => Ok(Tones::Mark),
+            "grey" => Ok(Tones::Grey),
+            "relief" => Ok(Tones::Relief),
+            "colour" => Ok(Tones::Colour),
+            _ => Err(UnknownTones),
+        }
+    }
 }
 
 /// What a card is made of.
-#[derive(Clone, Copy)]
+#[derive(Clone, Copy, PartialEq, Eq, Debug)]
 pub struct Choice {
     pub tones: Tones,
-    pub ranker: Ranker,
+    pub selector: Kind,
 }
 
 /// A call on the present element.
@@ -48,15 +66,32 @@ pub enum Drafting {
     Step(char),
 }
 
+/// The size of a card.
+#[derive(Clone, Copy)]
+pub struct Opening {
+    pub width: usize,
+    pub height: usize,
+    pub stages: usize,
+}
+
+/// A rectangle of a card.
+#[derive(Clone, Copy)]
+pub struct Patch {
+    pub x: usize,
+    pub y: usize,
+    pub width: usize,
+    pub height: usize,
+}
+
 /// A call on the present card.
 #[derive(Clone, Copy)]
-pub enum Call {
-    /// The width, the height and the stages; the rows of plane 0 come after them.
-    Open(usize, usize, usize),
+pub enum Call<'a> {
+    /// The size, and the words of the rows of plane 0.
+    Open(Opening, &'a [&'a str]),
     /// The present draft is handed over.
     Install,
-    /// The corner, the width and the height; the rows come after them.
-    Patch(usize, usize, usize, usize),
+    /// The rectangle, and the words of its rows.
+    Patch(Patch, &'a [&'a str]),
     /// The budget.
     Work(usize),
     /// The first column, the row and the number of tones.
@@ -64,29 +99,18 @@ pub enum Call {
     Left,
     Due,
     Residue,
-    /// The corner; the path of the file comes after it.
-    Load(usize, usize),
-    /// Making a tone; the parts come after it.
-    Tone,
-}
-
-/// A call on the program's own selector.
-#[derive(Clone, Copy)]
-pub enum Ranking {
-    /// A code and the weight that it is given.
-    Put(u32, u32),
-    Total,
-    /// A rank.
-    Select(u32),
-    Empty,
+    /// The corner, and the path of the file.
+    Load(usize, usize, &'a str),
+    /// Making a tone of the parts that these words write.
+    Tone(&'a [&'a str]),
 }
 
 /// A line of a script.
 #[derive(Clone, Copy)]
-pub enum Command {
+pub enum Command<'a> {
     Choose(Choice),
     OnElement(Edit),
     OnDraft(Drafting),
-    OnCard(Call),
-    OnSelector(Ranking),
+    OnCard(Call<'a>),
+    OnSelector(SelectorCall),
 }

@@ -5,7 +5,7 @@ ghost use Rattle.recipes.specs.Placed.{placed};
 ghost use Rattle.recipes.specs.Places.{origin};
 ghost use Rattle.lines.specs.Desks.{Drafted, Stepped, edit_answer, edit_order, edit_places};
 
-use crate::answers::{Answer, element_told, step_told};
+use crate::answers::{Answer, Fault};
 use crate::commands::{Drafting, Edit};
 use recipes::draft::Draft;
 use recipes::element::Element;
@@ -15,24 +15,6 @@ use recipes::element::Element;
 pub struct Desk {
     element: Element,
     draft: Option<Draft>,
-}
-
-/// Makes the call on an element.
-fn edited(element: &mut Element, edit: Edit) -> Answer
-    ensures answer { result ≡ edit_answer (placed element.old) edit }
-    ensures places { placed element.new ≡ edit_places (placed element.old) edit }
-    ensures order { element.new.order ≡ edit_order (placed element.old) element.old.order edit }
-{
-    match edit {
-        Edit::Element => {
-            *element = Element::new();
-            Answer::Done
-        }
-        Edit::Place(dx, dy, part, amount) => element_told(element.place(dx, dy, part, amount)),
-        Edit::Amount(dx, dy, amount) => element_told(element.amount(dx, dy, amount)),
-        Edit::Order(k) => element_told(element.order(k)),
-        Edit::Standard(i) => element_told(element.standard(i)),
-    }
 }
 
 impl Desk {
@@ -49,42 +31,46 @@ impl Desk {
     }
 
     /// Makes the call on the present element.
-    pub fn edit(&mut self, edit: Edit) -> Answer
+    pub fn edit(&mut self, edit: Edit) -> Result<Answer, Fault>
         ensures answer { result ≡ edit_answer (placed self.old.element) edit }
         ensures places { placed self.new.element ≡ edit_places (placed self.old.element) edit }
         ensures order { self.new.element.order ≡ edit_order (placed self.old.element) self.old.element.order edit }
         ensures draft { self.new.draft ≡ self.old.draft }
     {
-        edited(&mut self.element, edit)
+        match edit {
+            Edit::Element => self.element = Element::new(),
+            Edit::Place(dx, dy, part, amount) => self.element.place(dx, dy, part, amount)?,
+            Edit::Amount(dx, dy, amount) => self.element.amount(dx, dy, amount)?,
+            Edit::Order(k) => self.element.order(k)?,
+            Edit::Standard(i) => self.element.standard(i)?,
+        }
+        Ok(Answer::Done)
     }
 
     /// Makes the call on the present draft.
-    pub fn draft(&mut self, drafting: Drafting) -> Answer
+    pub fn draft(&mut self, drafting: Drafting) -> Result<Answer, Fault>
         ensures answer { Drafted self.old.draft self.old.element drafting self.new.draft result }
         ensures element { self.new.element ≡ self.old.element }
     {
         match drafting {
             Drafting::Begin(n) => {
                 self.draft = Some(Draft::begin(n));
-                Answer::Done
+                Ok(Answer::Done)
             }
             Drafting::Step(letter) => self.step(letter),
         }
     }
 
     /// Adds a step with the present element; not read without a draft.
-    fn step(&mut self, letter: char) -> Answer
+    fn step(&mut self, letter: char) -> Result<Answer, Fault>
         ensures answer { Stepped self.old.draft self.old.element letter self.new.draft result }
         ensures element { self.new.element ≡ self.old.element }
     {
-        match self.draft.take() {
-            None => Answer::Unknown,
-            Some(mut draft) => {
-                let answer = step_told(draft.step(letter, &self.element));
-                self.draft = Some(draft);
-                answer
-            }
-        }
+        let Some(draft) = &mut self.draft else {
+            return Err(Fault::Unknown);
+        };
+        draft.step(letter, &self.element)?;
+        Ok(Answer::Done)
     }
 
     /// Gives the present draft away.

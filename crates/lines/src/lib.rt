@@ -5,7 +5,6 @@
 pub mod answers;
 pub mod commands;
 pub mod desk;
-pub mod ranks;
 pub mod reading;
 pub mod tally;
 pub mod words;

@@ -3,64 +3,57 @@
 ghost use Rattle.std.specs.Prelude.{◌≡◌, ◌<◌, MatchResult, ◌≢◌};
 ghost use Rattle.cards.specs.Meanings.{InOrder};
 
-use calls::refusals::Refusal;
 use cards::card::Card;
-use cards::faults::LoadFault;
+use lines::answers::Fault;
 use lines::words::number;
 use selectors::Selector;
-use std::alloc::{AllocError, Global};
+use std::alloc::AllocError;
+use std::fmt::Write;
 use tones::{Colour, ColourRow, Grey, Mark, Relief, Tone, ToneRefusal};
 
-/// A kind of tones whose rows can be written in a script.
-pub trait Rows: Tone {
+/// A kind of tones whose rows can be written in a script. The row by default has the numbers 0.
+pub trait Rows: Tone<Row: Default> {
     /// How many numbers a row has.
-    fn parts() -> usize
-        ensures { 0 < result };
-
-    /// The row whose numbers are all 0.
-    fn zero() -> Self::Row;
+    const PARTS: usize;
 
     /// The row that the words write; none where they are too many, too few or no numbers of its parts.
     fn read(words: &[&str]) -> Option<Self::Row>;
 
-    /// The numbers of the row, each after a space.
-    fn text(heap: Global, row: Self::Row) -> Result<String, AllocError>;
+    /// Adds the numbers of the row to a text, each after a space.
+    fn show(row: Self::Row, text: &mut String) -> Result<(), AllocError>;
 
     /// The tone of these parts; refused outside the limits.
     fn make(row: Self::Row) -> Result<Self, ToneRefusal>
         ensures { MatchResult result (λ t. Self.Tone.kind.row t ≡ row) (λ _. (t : Self) → Self.Tone.kind.row t ≢ row) };
 
-    /// Writes raw minus finished of a card into the reliefs; none where the kind has no residues.
+    /// Writes raw minus finished of a card into the reliefs; not read where the kind has no residues.
     fn residue<S: Selector>(
         _card: &Card<Self, S>,
         _memory: &[Self::Row],
         _reliefs: &mut [i16],
-    ) -> Option<Result<(), Refusal>> {
-        None
+    ) -> Result<(), Fault> {
+        Err(Fault::Unknown)
     }
 
-    /// Patches a card with a file; none where the kind has no files.
+    /// Patches a card with a file; not read where the kind has no files.
     fn load<S: Selector>(
         card: &mut Card<Self, S>,
         _memory: &mut [Self::Row],
         _x: usize,
         _y: usize,
         _file: &[u8],
-    ) -> Option<Result<(), LoadFault>>
+    ) -> Result<(), Fault>
         ensures in_order { InOrder Self.Tone.kind S.Selector.range S.Selector.ordered card.old → InOrder Self.Tone.kind S.Selector.range S.Selector.ordered card.new }
     {
-        None
+        Err(Fault::Unknown)
     }
+
+    // What each `impl` must prove.
+    ghost some_parts: { 0 < PARTS };
 }
 
 impl Rows for Mark {
-    fn parts() -> usize {
-        1
-    }
-
-    fn zero() -> bool {
-        false
-    }
+    const PARTS: usize = 1;
 
     fn read(words: &[&str]) -> Option<bool> {
         match words {
@@ -70,9 +63,8 @@ impl Rows for Mark {
         }
     }
 
-    fn text(heap: Global, row: bool) -> Result<String, AllocError> {
-        let digit = u8::from(row);
-        format!(in heap; " {digit}")
+    fn show(row: bool, text: &mut String) -> Result<(), AllocError> {
+        write!(text, " {}", u8::from(row))
     }
 
     fn make(row: bool) -> Result<Mark, ToneRefusal> {
@@ -81,13 +73,7 @@ impl Rows for Mark {
 }
 
 impl Rows for Grey {
-    fn parts() -> usize {
-        1
-    }
-
-    fn zero() -> u8 {
-        0
-    }
+    const PARTS: usize = 1;
 
     fn read(words: &[&str]) -> Option<u8> {
         match words {
@@ -96,8 +82,8 @@ impl Rows for Grey {
         }
     }
 
-    fn text(heap: Global, row: u8) -> Result<String, AllocError> {
-        format!(in heap; " {row}")
+    fn show(row: u8, text: &mut String) -> Result<(), AllocError> {
+        write!(text, " {row}")
     }
 
     fn make(row: u8) -> Result<Grey, ToneRefusal> {
@@ -108,8 +94,8 @@ impl Rows for Grey {
         card: &Card<Grey, S>,
         memory: &[u8],
         reliefs: &mut [i16],
-    ) -> Option<Result<(), Refusal>> {
-        Some(card.residue(memory, reliefs))
+    ) -> Result<(), Fault> {
+        Ok(card.residue(memory, reliefs)?)
     }
 
     fn load<S: Selector>(
@@ -118,19 +104,13 @@ impl Rows for Grey {
         x: usize,
         y: usize,
         file: &[u8],
-    ) -> Option<Result<(), LoadFault>> {
-        Some(card.load(memory, x, y, file))
+    ) -> Result<(), Fault> {
+        Ok(card.load(memory, x, y, file)?)
     }
 }
 
 impl Rows for Relief {
-    fn parts() -> usize {
-        1
-    }
-
-    fn zero() -> i16 {
-        0
-    }
+    const PARTS: usize = 1;
 
     fn read(words: &[&str]) -> Option<i16> {
         match words {
@@ -139,8 +119,8 @@ impl Rows for Relief {
         }
     }
 
-    fn text(heap: Global, row: i16) -> Result<String, AllocError> {
-        format!(in heap; " {row}")
+    fn show(row: i16, text: &mut String) -> Result<(), AllocError> {
+        write!(text, " {row}")
     }
 
     fn make(row: i16) -> Result<Relief, ToneRefusal> {
@@ -149,17 +129,7 @@ impl Rows for Relief {
 }
 
 impl Rows for Colour {
-    fn parts() -> usize {
-        3
-    }
-
-    fn zero() -> ColourRow {
-        ColourRow {
-            hue: 0,
-            saturation: 0,
-            brightness: 0,
-        }
-    }
+    const PARTS: usize = 3;
 
     fn read(words: &[&str]) -> Option<ColourRow> {
         match words {
@@ -172,11 +142,8 @@ impl Rows for Colour {
         }
     }
 
-    fn text(heap: Global, row: ColourRow) -> Result<String, AllocError> {
-        let hue = row.hue;
-        let saturation = row.saturation;
-        let brightness = row.brightness;
-        format!(in heap; " {hue} {saturation} {brightness}")
+    fn show(row: ColourRow, text: &mut String) -> Result<(), AllocError> {
+        write!(text, " {} {} {}", row.hue, row.saturation, row.brightness)
     }
 
     fn make(row: ColourRow) -> Result<Colour, ToneRefusal> {

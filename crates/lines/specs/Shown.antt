@@ -1,0 +1,52 @@
+-- The line that shows each answer and each fault. Assumes nothing.
+use Rattle.std.specs.Prelude.{ℕ, List, ◌++◌, Some, None, Option, codes, encode_utf8, string_bytes}
+use Rattle.std.specs.Fmt.{decimal}
+use Rattle.calls.specs.Refusals.{refusal_number}
+use Rattle.calls.specs.declared.refusals.Refusal.{Refusal}
+use Rattle.calls.specs.declared.refusals.Refusal.TheVariants.{Stale}
+use Rattle.cards.specs.Loading.{load_letter, load_number, load_spot}
+use Rattle.recipes.specs.Refusals.{element_number, draft_number}
+use Rattle.selectors.specs.Played.{call_number}
+use Rattle.tones.specs.Refusals.{refusal_number as tone_number}
+use Rattle.lines.specs.declared.answers.Answer.{Answer}
+use Rattle.lines.specs.declared.answers.Answer.TheVariants as told
+use Rattle.lines.specs.declared.answers.Fault.{Fault}
+use Rattle.lines.specs.declared.answers.Fault.TheVariants as fault
+
+-- the stage and the row that are next
+abbrev pub due_line : Option (ℕ × ℕ) → List ℕ
+due_line (Some d) = decimal d.0 ++ codes " " ++ decimal d.1
+due_line None = codes "nothing"
+
+-- an answer
+abbrev pub answer_line : Answer → List ℕ
+answer_line told.Done = codes "ok"
+answer_line (told.Counted n) = codes "ok " ++ decimal n
+answer_line (told.Rows t) = codes "ok" ++ string_bytes t
+answer_line (told.Number n) = decimal n
+answer_line (told.Due d) = due_line d
+
+-- a refusal by its number
+abbrev pub refused_line : ℕ → List ℕ
+refused_line n = codes "refused " ++ decimal n
+
+-- a card's refusal: with the first column where a stale area is met
+abbrev pub card_line : Refusal → List ℕ
+card_line (Stale c) = refused_line (refusal_number (Stale c)) ++ codes " " ++ decimal c
+card_line e = refused_line (refusal_number e)
+
+-- a load's: with the letter and the byte of a file's fault, and 0 for the card
+abbrev pub load_line : Option ℕ → ℕ → ℕ → List ℕ
+load_line (Some letter) n spot = codes "refused load file " ++ decimal n ++ codes " " ++ encode_utf8 letter ++ codes " " ++ decimal spot
+load_line None n spot = codes "refused load card " ++ decimal n ++ codes " " ++ decimal spot
+
+-- a fault
+abbrev pub fault_line : Fault → List ℕ
+fault_line fault.Unknown = codes "unknown"
+fault_line (fault.Element e) = refused_line (element_number e)
+fault_line (fault.Draft e) = refused_line (draft_number e)
+fault_line (fault.Selector e) = refused_line (call_number e)
+fault_line (fault.Card e) = card_line e
+fault_line (fault.Load e) = load_line (load_letter e) (load_number e) (load_spot e)
+fault_line (fault.Tone e) = refused_line (tone_number e)
+fault_line (fault.Memory e) = codes "no memory"
