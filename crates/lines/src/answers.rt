@@ -141,10 +141,10 @@ impl fmt::Display for Fault {
             Fault::Element(refusal) => write!(f, "refused {}", refusal.number()),
             Fault::Draft(refusal) => write!(f, "refused {}", refusal.number()),
             Fault::Selector(refusal) => write!(f, "refused {}", refusal.number()),
-            Fault::Card(Refusal::Stale(column)) => {
-                write!(f, "refused {} {column}", Refusal::Stale(*column).number())
-            }
-            Fault::Card(refusal) => write!(f, "refused {}", refusal.number()),
+            Fault::Card(refusal) => match refusal {
+                Refusal::Stale(column) => write!(f, "refused {} {column}", refusal.number()),
+                _ => write!(f, "refused {}", refusal.number()),
+            },
             Fault::Load(fault) => match fault.letter() {
                 Some(letter) => {
                     let spot = fault.spot();

@@ -103,10 +103,18 @@ pub fn read_call<'a>(name: &str, rest: &'a [&'a str]) -> Option<Call<'a>>
 pub fn read_command<'a>(name: &str, rest: &'a [&'a str]) -> Option<Command<'a>>
     ensures { IfSome result (λ c. Says name.now rest.now c) }
 {
-    read_call(name, rest)
-        .map(Command::OnCard)
-        .or_else(|| -> Option<Command<'a>> { Some(Command::Choose(read_choice(name, rest)?)) })
-        .or_else(|| -> Option<Command<'a>> { Some(Command::OnElement(read_edit(name, rest)?)) })
-        .or_else(|| -> Option<Command<'a>> { Some(Command::OnDraft(read_drafting(name, rest)?)) })
-        .or_else(|| -> Option<Command<'a>> { Some(Command::OnSelector(read_selector_call(name, rest)?)) })
+    // No chain of `or_else`: the check covers no closure whose result alone names a lifetime.
+    if let Some(choice) = read_choice(name, rest) {
+        return Some(Command::Choose(choice));
+    }
+    if let Some(edit) = read_edit(name, rest) {
+        return Some(Command::OnElement(edit));
+    }
+    if let Some(drafting) = read_drafting(name, rest) {
+        return Some(Command::OnDraft(drafting));
+    }
+    if let Some(call) = read_selector_call(name, rest) {
+        return Some(Command::OnSelector(call));
+    }
+    read_call(name, rest).map(Command::OnCard)
 }
