@@ -7,7 +7,7 @@ use std::alloc::{AllocError, Global};
 /// The rows that the words write; not read where one of them cannot be.
 pub fn rows_read<T: Rows>(heap: Global, words: &[&str]) -> Result<Vec<T::Row>, Fault> {
     words
-        .chunks(T::PARTS)
+        .chunks(T::parts())
         .map(|word| T::read(word).ok_or(Fault::Unknown))
         .try_collect(heap)
 }

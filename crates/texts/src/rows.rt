@@ -13,8 +13,9 @@ use tones::{Colour, ColourRow, Grey, Mark, Relief, Tone, ToneRefusal};
 
 /// A kind of tones whose rows can be written in a script. The row by default has the numbers 0.
 pub trait Rows: Tone<Row: Default> {
-    /// How many numbers a row has.
-    const PARTS: usize;
+    /// How many numbers a row has. No constant, since a law cannot say that a trait's constant is above 0.
+    fn parts() -> usize
+        ensures { 0 < result };
 
     /// The row that the words write; none where they are too many, too few or no numbers of its parts.
     fn read(words: &[&str]) -> Option<Self::Row>;
@@ -47,13 +48,12 @@ pub trait Rows: Tone<Row: Default> {
     {
         Err(Fault::Unknown)
     }
-
-    // What each `impl` must prove.
-    ghost some_parts: { 0 < PARTS };
 }
 
 impl Rows for Mark {
-    const PARTS: usize = 1;
+    fn parts() -> usize {
+        1
+    }
 
     fn read(words: &[&str]) -> Option<bool> {
         match words {
@@ -73,7 +73,9 @@ impl Rows for Mark {
 }
 
 impl Rows for Grey {
-    const PARTS: usize = 1;
+    fn parts() -> usize {
+        1
+    }
 
     fn read(words: &[&str]) -> Option<u8> {
         match words {
@@ -110,7 +112,9 @@ impl Rows for Grey {
 }
 
 impl Rows for Relief {
-    const PARTS: usize = 1;
+    fn parts() -> usize {
+        1
+    }
 
     fn read(words: &[&str]) -> Option<i16> {
         match words {
@@ -129,7 +133,9 @@ impl Rows for Relief {
 }
 
 impl Rows for Colour {
-    const PARTS: usize = 3;
+    fn parts() -> usize {
+        3
+    }
 
     fn read(words: &[&str]) -> Option<ColourRow> {
         match words {
