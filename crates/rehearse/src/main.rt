@@ -2,44 +2,47 @@
 
 #![tactic(auto)]
 
-mod loads;
 mod player;
 mod script;
 mod session;
 
 use lines::answers::Answer;
-use lines::commands::{Choice, Ranker, Tones};
+use lines::commands::{Choice, Tones};
 use lines::desk::Desk;
 use lines::tally::Tally;
 use script::Script;
+use selectors::calls::Kind;
 use selectors::{Gate, Histogram, Ladder};
-use session::{End, Evening, session};
+use session::{Evening, session};
 use std::io;
+use std::ops::ControlFlow;
 use texts::rows::Rows;
 use tones::{Colour, Grey, Mark, Relief, Tone};
 
 /// A session on a card of these tones, with the selector that is chosen.
-fn with_ranker<T: Rows>(
+fn with_selector<T: Rows>(
     rt: &HostRuntime,
-    ranker: Ranker,
+    selector: Kind,
     evening: &mut Evening,
-) -> io::Result<End> {
-    match ranker {
-        Ranker::Gate => session::<T, Gate>(rt, Gate::new(), Gate::new(), evening),
-        Ranker::Histogram => {
-            session::<T, Histogram>(rt, Histogram::new(), Histogram::new(), evening)
-        }
-        Ranker::Ladder => session::<T, Ladder>(rt, Ladder::new(), Ladder::new(), evening),
+) -> io::Result<ControlFlow<usize, Choice>> {
+    match selector {
+        Kind::Gate => session::<T, Gate>(rt, Gate::new(), Gate::new(), evening),
+        Kind::Histogram => session::<T, Histogram>(rt, Histogram::new(), Histogram::new(), evening),
+        Kind::Ladder => session::<T, Ladder>(rt, Ladder::new(), Ladder::new(), evening),
     }
 }
 
 /// A session on the card that is chosen.
-fn with_card(rt: &HostRuntime, choice: Choice, evening: &mut Evening) -> io::Result<End> {
+fn with_card(
+    rt: &HostRuntime,
+    choice: Choice,
+    evening: &mut Evening,
+) -> io::Result<ControlFlow<usize, Choice>> {
     match choice.tones {
-        Tones::Mark => with_ranker::<Mark>(rt, choice.ranker, evening),
-        Tones::Grey => with_ranker::<Grey>(rt, choice.ranker, evening),
-        Tones::Relief => with_ranker::<Relief>(rt, choice.ranker, evening),
-        Tones::Colour => with_ranker::<Colour>(rt, choice.ranker, evening),
+        Tones::Mark => with_selector::<Mark>(rt, choice.selector, evening),
+        Tones::Grey => with_selector::<Grey>(rt, choice.selector, evening),
+        Tones::Relief => with_selector::<Relief>(rt, choice.selector, evening),
+        Tones::Colour => with_selector::<Colour>(rt, choice.selector, evening),
     }
 }
 
@@ -47,15 +50,14 @@ fn with_card(rt: &HostRuntime, choice: Choice, evening: &mut Evening) -> io::Res
 fn sessions(rt: &HostRuntime, evening: &mut Evening) -> io::Result<usize> {
     let mut choice = Choice {
         tones: Tones::Grey,
-        ranker: Ranker::Histogram,
+        selector: Kind::Histogram,
     };
     for _ in 0..u64::MAX {
         match with_card(rt, choice, evening)? {
-            End::Over(left) => return Ok(left),
-            End::Next(next) => choice = next,
+            ControlFlow::Break(left) => return Ok(left),
+            ControlFlow::Continue(next) => choice = next,
         }
-        evening.tally.count(&Answer::Done);
-        println!(rt; "{}", Answer::Done)?;
+        evening.tell(rt, Ok(Answer::Done))?;
     }
     Ok(0)
 }

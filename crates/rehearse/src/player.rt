@@ -1,20 +1,20 @@
 //! A card with its memory, and a selector of the program's own, on which calls are played.
 
 ghost use Rattle.std.specs.Prelude.{◌≡◌, ℕ};
-ghost use Rattle.cards.specs.Meanings.{InOrder, state_of};
-ghost use Rattle.lines.specs.Played.{Answered, after};
-ghost use Rattle.rehearse.specs.Plays.{HandsOver, TellsDue, TellsLeft, Works};
+ghost use Rattle.cards.specs.Meanings.{state_of};
+ghost use Rattle.rehearse.specs.Plays.{HandsOver, Ranks, TellsDue, TellsLeft, Works};
+ghost use Rattle.rehearse.specs.Ready.{IsReady};
 ghost use Rattle.rehearse.specs.Rooms.{room_of};
+ghost use Rattle.selectors.specs.Played.{after};
 
-use crate::loads::load_told;
 use cards::card::Card;
-use lines::answers::{Answer, Fault, call_told, due_told, refusal_told, work_told};
-use lines::commands::Ranking;
-use lines::ranks::rank;
+use lines::answers::{Answer, Fault};
+use lines::commands::{Opening, Patch};
 use recipes::draft::Draft;
 use selectors::Selector;
-use std::alloc::{AllocError, Global};
-use texts::lists::{fill_up, rows_read, rows_shown};
+use selectors::calls::{Call, play};
+use std::alloc::Global;
+use texts::lists::{rows_read, rows_shown};
 use texts::rows::Rows;
 use tones::{Relief, Tone};
 
@@ -28,21 +28,25 @@ pub struct Player<T: Rows, S> {
 }
 
 /// How many rows the memory has and how many plane 0 has; none where a number is outside its limits.
-pub fn room(width: usize, height: usize, stages: usize) -> Option<(usize, usize)>
-    ensures { result ≡ room_of width height stages }
+pub fn room(opening: Opening) -> Option<(usize, usize)>
+    ensures { result ≡ room_of opening.width opening.height opening.stages }
 {
-    if width < 1 || width > 1024 || height < 1 || height > 256 || stages < 1 || stages > 8 {
-        return None;
-    }
-    let area = width * height;
-    Some(((stages + 1) * area, area))
+    let Opening {
+        width,
+        height,
+        stages,
+    } = opening;
+    let within = (1..=1024).contains(&width)
+        && (1..=256).contains(&height)
+        && (1..=8).contains(&stages);
+    within.then(|| ((stages + 1) * (width * height), width * height))
 }
 
 impl<T: Rows, S: Selector> Player<T, S> {
     /// A card without a size.
     pub fn new(heap: Global, selector: S, own: S) -> Player<T, S>
         requires { (S.Selector.ordered selector) × (S.Selector.ordered own) }
-        ensures in_order { (InOrder T.Tone.kind S.Selector.range S.Selector.ordered result.card) × (S.Selector.ordered result.own) }
+        ensures ready { IsReady T.Tone.kind S.Selector.range S.Selector.ordered result }
     {
         Player {
             card: Card::new(selector),
@@ -58,87 +62,72 @@ impl<T: Rows, S: Selector> Player<T, S> {
     }
 
     /// Opens the card with these rows in plane 0, or zeros where there are none. With rows of another count they are all of the memory, which is then refused unless they fill it.
-    pub fn open(
-        &mut self,
-        heap: Global,
-        width: usize,
-        height: usize,
-        stages: usize,
-        words: &[&str],
-    ) -> Result<Answer, AllocError>
-        requires { (InOrder T.Tone.kind S.Selector.range S.Selector.ordered self.old.card) × (S.Selector.ordered self.old.own) }
-        ensures in_order { (InOrder T.Tone.kind S.Selector.range S.Selector.ordered self.new.card) × (S.Selector.ordered self.new.own) }
+    pub fn open(&mut self, heap: Global, opening: Opening, words: &[&str]) -> Result<Answer, Fault>
+        requires { IsReady T.Tone.kind S.Selector.range S.Selector.ordered self.old }
+        ensures ready { IsReady T.Tone.kind S.Selector.range S.Selector.ordered self.new }
     {
-        let Some(mut rows) = rows_read::<T>(heap, words)? else {
-            return Ok(Answer::Unknown);
-        };
+        let mut rows = rows_read::<T>(heap, words)?;
         let mut pixels = 0;
-        if let Some((all, area)) = room(width, height, stages) {
+        if let Some((all, area)) = room(opening) {
             pixels = area;
             if rows.is_empty() || rows.len() == area {
-                fill_up::<T>(&mut rows, all)?;
+                rows.resize(all, T::Row::default())?;
             }
-        } else {
-            rows.clear();
         }
-        let result = self.card.open(rows.as_slice(), width, height, stages);
-        if result.is_ok() {
-            self.memory = rows;
-            self.area = pixels;
-        }
-        Ok(call_told(result))
+        let Opening {
+            width,
+            height,
+            stages,
+        } = opening;
+        self.card.open(rows.as_slice(), width, height, stages)?;
+        self.memory = rows;
+        self.area = pixels;
+        Ok(Answer::Done)
     }
 
     /// Hands a draft over; not read without one.
-    pub fn install(&mut self, draft: Option<Draft>) -> Answer
-        requires { (InOrder T.Tone.kind S.Selector.range S.Selector.ordered self.old.card) × (S.Selector.ordered self.old.own) }
+    pub fn install(&mut self, draft: Option<Draft>) -> Result<Answer, Fault>
+        requires { IsReady T.Tone.kind S.Selector.range S.Selector.ordered self.old }
         ensures outcome { HandsOver T.Tone.kind (state_of S.Selector.weight self.old.card self.old.memory.items) draft result (state_of S.Selector.weight self.new.card self.new.memory.items) }
-        ensures in_order { (InOrder T.Tone.kind S.Selector.range S.Selector.ordered self.new.card) × (S.Selector.ordered self.new.own) }
+        ensures ready { IsReady T.Tone.kind S.Selector.range S.Selector.ordered self.new }
     {
-        match draft {
-            Some(draft) => call_told(self.card.install(self.memory.as_slice(), draft)),
-            None => Answer::Unknown,
-        }
+        let draft = draft.ok_or(Fault::Unknown)?;
+        self.card.install(self.memory.as_slice(), draft)?;
+        Ok(Answer::Done)
     }
 
     /// Writes these rows into a rectangle.
-    pub fn patch(
-        &mut self,
-        heap: Global,
-        x: usize,
-        y: usize,
-        width: usize,
-        height: usize,
-        words: &[&str],
-    ) -> Result<Answer, AllocError>
-        requires { (InOrder T.Tone.kind S.Selector.range S.Selector.ordered self.old.card) × (S.Selector.ordered self.old.own) }
-        ensures in_order { (InOrder T.Tone.kind S.Selector.range S.Selector.ordered self.new.card) × (S.Selector.ordered self.new.own) }
+    pub fn patch(&mut self, heap: Global, patch: Patch, words: &[&str]) -> Result<Answer, Fault>
+        requires { IsReady T.Tone.kind S.Selector.range S.Selector.ordered self.old }
+        ensures ready { IsReady T.Tone.kind S.Selector.range S.Selector.ordered self.new }
     {
-        let Some(rows) = rows_read::<T>(heap, words)? else {
-            return Ok(Answer::Unknown);
-        };
+        let rows = rows_read::<T>(heap, words)?;
+        let Patch {
+            x,
+            y,
+            width,
+            height,
+        } = patch;
         let memory = self.memory.as_mut_slice();
-        let result = self
-            .card
-            .patch(memory, x, y, width, height, rows.as_slice());
-        Ok(call_told(result))
+        self.card
+            .patch(memory, x, y, width, height, rows.as_slice())?;
+        Ok(Answer::Done)
     }
 
     /// Redoes rows, at most as many as the budget.
-    pub fn work(&mut self, budget: usize) -> Answer
-        requires { (InOrder T.Tone.kind S.Selector.range S.Selector.ordered self.old.card) × (S.Selector.ordered self.old.own) }
+    pub fn work(&mut self, budget: usize) -> Result<Answer, Fault>
+        requires { IsReady T.Tone.kind S.Selector.range S.Selector.ordered self.old }
         ensures outcome { Works T.Tone.kind (state_of S.Selector.weight self.old.card self.old.memory.items) budget result (state_of S.Selector.weight self.new.card self.new.memory.items) }
-        ensures in_order { (InOrder T.Tone.kind S.Selector.range S.Selector.ordered self.new.card) × (S.Selector.ordered self.new.own) }
+        ensures ready { IsReady T.Tone.kind S.Selector.range S.Selector.ordered self.new }
     {
-        work_told(self.card.work(self.memory.as_mut_slice(), budget))
+        let rows = self.card.work(self.memory.as_mut_slice(), budget)?;
+        Ok(Answer::Counted(rows as u64))
     }
 
     /// Tells a piece of the finished card.
-    pub fn row(&self, heap: Global, x: usize, y: usize, n: usize) -> Result<Answer, AllocError> {
-        match self.card.row(self.memory.as_slice(), x, y, n) {
-            Ok(rows) => Ok(Answer::Rows(rows_shown::<T>(heap, rows)?)),
-            Err(refusal) => Ok(refusal_told(refusal)),
-        }
+    pub fn row(&self, heap: Global, x: usize, y: usize, n: usize) -> Result<Answer, Fault> {
+        let rows = self.card.row(self.memory.as_slice(), x, y, n)?;
+        Ok(Answer::Rows(rows_shown::<T>(heap, rows)?))
     }
 
     /// Tells the stale rows.
@@ -152,52 +141,42 @@ impl<T: Rows, S: Selector> Player<T, S> {
     pub fn tell_due(&self) -> Answer
         ensures { TellsDue T.Tone.kind (state_of S.Selector.weight self.now.card self.now.memory.items) result }
     {
-        due_told(self.card.due())
+        Answer::Due(self.card.due())
     }
 
     /// Tells raw minus finished; not read where the kind has no residues.
-    pub fn residue(&self, heap: Global) -> Result<Answer, AllocError> {
+    pub fn residue(&self, heap: Global) -> Result<Answer, Fault> {
         let mut reliefs = vec![in heap; 0i16; self.area]?;
-        match T::residue(&self.card, self.memory.as_slice(), reliefs.as_mut_slice()) {
-            None => Ok(Answer::Unknown),
-            Some(Ok(())) => Ok(Answer::Rows(rows_shown::<Relief>(heap, reliefs.as_slice())?)),
-            Some(Err(refusal)) => Ok(refusal_told(refusal)),
-        }
+        T::residue(&self.card, self.memory.as_slice(), reliefs.as_mut_slice())?;
+        Ok(Answer::Rows(rows_shown::<Relief>(heap, reliefs.as_slice())?))
     }
 
     /// Patches the card with a file; not read without one, or where the kind has no files.
-    pub fn load(&mut self, x: usize, y: usize, file: Option<Vec<u8>>) -> Answer
-        requires { (InOrder T.Tone.kind S.Selector.range S.Selector.ordered self.old.card) × (S.Selector.ordered self.old.own) }
-        ensures in_order { (InOrder T.Tone.kind S.Selector.range S.Selector.ordered self.new.card) × (S.Selector.ordered self.new.own) }
+    pub fn load(&mut self, x: usize, y: usize, file: Option<Vec<u8>>) -> Result<Answer, Fault>
+        requires { IsReady T.Tone.kind S.Selector.range S.Selector.ordered self.old }
+        ensures ready { IsReady T.Tone.kind S.Selector.range S.Selector.ordered self.new }
     {
-        let Some(bytes) = file else {
-            return Answer::Unknown;
-        };
+        let bytes = file.ok_or(Fault::Unknown)?;
         let memory = self.memory.as_mut_slice();
-        match T::load(&mut self.card, memory, x, y, bytes.as_slice()) {
-            Some(result) => load_told(result),
-            None => Answer::Unknown,
-        }
+        T::load(&mut self.card, memory, x, y, bytes.as_slice())?;
+        Ok(Answer::Done)
     }
 
     /// Makes a tone of these parts, and tells its code.
-    pub fn tone(&self, words: &[&str]) -> Answer {
-        let Some(row) = T::read(words) else {
-            return Answer::Unknown;
-        };
-        match T::make(row) {
-            Ok(tone) => Answer::Counted(tone.code() as u64),
-            Err(refusal) => Answer::Refused(Fault::Number(refusal.number())),
-        }
+    pub fn tone(&self, words: &[&str]) -> Result<Answer, Fault> {
+        let row = T::read(words).ok_or(Fault::Unknown)?;
+        let tone = T::make(row)?;
+        Ok(Answer::Counted(tone.code() as u64))
     }
 
     /// Makes the call on the program's own selector.
-    pub fn ranks(&mut self, ranking: Ranking) -> Answer
-        requires { (InOrder T.Tone.kind S.Selector.range S.Selector.ordered self.old.card) × (S.Selector.ordered self.old.own) }
-        ensures answer { Answered (S.Selector.weight self.old.own) (S.Selector.range self.old.own) ranking result }
-        ensures weights { (c : ℕ) → S.Selector.weight self.new.own c ≡ after (S.Selector.weight self.old.own) (S.Selector.range self.old.own) ranking c }
-        ensures in_order { (InOrder T.Tone.kind S.Selector.range S.Selector.ordered self.new.card) × (S.Selector.ordered self.new.own) }
+    pub fn ranks(&mut self, call: Call) -> Result<Answer, Fault>
+        requires { IsReady T.Tone.kind S.Selector.range S.Selector.ordered self.old }
+        ensures answer { Ranks (S.Selector.weight self.old.own) (S.Selector.range self.old.own) call result }
+        ensures weights { (c : ℕ) → S.Selector.weight self.new.own c ≡ after (S.Selector.weight self.old.own) (S.Selector.range self.old.own) call c }
+        ensures ready { IsReady T.Tone.kind S.Selector.range S.Selector.ordered self.new }
     {
-        rank(&mut self.own, ranking)
+        let reply = play(&mut self.own, call)?;
+        Ok(reply.into())
     }
 }

@@ -32,19 +32,15 @@ impl Script {
 
     /// The present line, where it is text.
     pub fn text(&self) -> Option<&str> {
-        match std::str::from_utf8(self.line.as_slice()) {
-            Ok(text) => Some(text),
-            Err(_) => None,
-        }
+        std::str::from_utf8(self.line.as_slice()).ok()
     }
 }
 
 /// The bytes of a file; none where it cannot be read or is too long.
 pub fn bytes_of(rt: &HostRuntime, path: &str) -> Option<Vec<u8>> {
-    match bytes_up_to(rt, path) {
-        Ok(bytes) if bytes.len() as u64 <= LONGEST => Some(bytes),
-        _ => None,
-    }
+    bytes_up_to(rt, path)
+        .ok()
+        .filter(|bytes| bytes.len() as u64 <= LONGEST)
 }
 
 /// The bytes of a file, cut one after the longest length.

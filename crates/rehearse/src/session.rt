@@ -1,27 +1,19 @@
 //! Plays the lines of a script on one card, until another is asked for.
 
-ghost use Rattle.cards.specs.Meanings.{InOrder};
+ghost use Rattle.rehearse.specs.Ready.{IsReady};
 
 use crate::player::Player;
 use crate::script::{Script, bytes_of};
-use lines::answers::Answer;
+use lines::answers::{Answer, Fault};
 use lines::commands::{Call, Choice, Command};
 use lines::desk::Desk;
-use lines::reading::{read_command, tail};
+use lines::reading::read_command;
 use lines::tally::Tally;
 use selectors::Selector;
 use std::alloc::AllocError;
 use std::io;
+use std::ops::ControlFlow;
 use texts::rows::Rows;
-
-/// How a session ends.
-#[derive(Clone, Copy)]
-pub enum End {
-    /// Another card is asked for.
-    Next(Choice),
-    /// The script is over; so many rows are left.
-    Over(usize),
-}
 
 /// What stays from card to card.
 #[derive(Drop)]
@@ -31,14 +23,27 @@ pub struct Evening {
     pub tally: Tally,
 }
 
-/// What a line asks for.
+impl Evening {
+    /// Counts what is told of a line, and prints it. Where there was no memory for a call, the program ends.
+    pub fn tell(&mut self, rt: &HostRuntime, told: Result<Answer, Fault>) -> io::Result<()> {
+        self.tally.count(&told);
+        match told {
+            Ok(answer) => println!(rt; "{answer}"),
+            Err(Fault::Memory(error)) => Err(error.into()),
+            Err(fault) => println!(rt; "{fault}"),
+        }
+    }
+}
+
+/// What a line asks for. Its own enum: three cases, of which none is a failure.
+#[derive(Drop)]
 pub enum Line {
     /// Nothing: it is passed over.
     Empty,
     /// Another card.
     Next(Choice),
-    /// A call, or an unknown line; the answer.
-    Answered(Answer),
+    /// A call, or a line that is not read; what is told of it.
+    Told(Result<Answer, Fault>),
 }
 
 /// Makes the call on the card.
@@ -47,32 +52,22 @@ fn call<T: Rows, S: Selector>(
     player: &mut Player<T, S>,
     desk: &mut Desk,
     call: Call,
-    rest: &[&str],
-) -> Result<Answer, AllocError>
-    requires { (InOrder T.Tone.kind S.Selector.range S.Selector.ordered player.old.card) × (S.Selector.ordered player.old.own) }
-    ensures in_order { (InOrder T.Tone.kind S.Selector.range S.Selector.ordered player.new.card) × (S.Selector.ordered player.new.own) }
+) -> Result<Answer, Fault>
+    requires { IsReady T.Tone.kind S.Selector.range S.Selector.ordered player.old }
+    ensures { IsReady T.Tone.kind S.Selector.range S.Selector.ordered player.new }
 {
     let heap = rt.alloc();
-    let rest = tail(call, rest);
     match call {
-        Call::Open(width, height, stages) => player.open(heap, width, height, stages, rest),
-        Call::Install => Ok(player.install(desk.hand_over())),
-        Call::Patch(x, y, width, height) => player.patch(heap, x, y, width, height, rest),
-        Call::Work(budget) => Ok(player.work(budget)),
+        Call::Open(opening, rows) => player.open(heap, opening, rows),
+        Call::Install => player.install(desk.hand_over()),
+        Call::Patch(patch, rows) => player.patch(heap, patch, rows),
+        Call::Work(budget) => player.work(budget),
         Call::Row(x, y, n) => player.row(heap, x, y, n),
         Call::Left => Ok(player.tell_left()),
         Call::Due => Ok(player.tell_due()),
         Call::Residue => player.residue(heap),
-        Call::Load(x, y) => Ok(player.load(x, y, file_of(rt, rest))),
-        Call::Tone => Ok(player.tone(rest)),
-    }
-}
-
-/// The bytes of the file that the word names.
-fn file_of(rt: &HostRuntime, words: &[&str]) -> Option<Vec<u8>> {
-    match words {
-        [path] => bytes_of(rt, path),
-        _ => None,
+        Call::Load(x, y, path) => player.load(x, y, bytes_of(rt, path)),
+        Call::Tone(parts) => player.tone(parts),
     }
 }
 
@@ -82,25 +77,24 @@ fn play<T: Rows, S: Selector>(
     player: &mut Player<T, S>,
     desk: &mut Desk,
     words: &[&str],
-) -> Result<Line, AllocError>
-    requires { (InOrder T.Tone.kind S.Selector.range S.Selector.ordered player.old.card) × (S.Selector.ordered player.old.own) }
-    ensures in_order { (InOrder T.Tone.kind S.Selector.range S.Selector.ordered player.new.card) × (S.Selector.ordered player.new.own) }
+) -> Line
+    requires { IsReady T.Tone.kind S.Selector.range S.Selector.ordered player.old }
+    ensures { IsReady T.Tone.kind S.Selector.range S.Selector.ordered player.new }
 {
     let [name, rest @ ..] = words else {
-        return Ok(Line::Empty);
+        return Line::Empty;
     };
     if name.starts_with('#') {
-        return Ok(Line::Empty);
+        return Line::Empty;
     }
-    let answer = match read_command(name, rest) {
-        None => Answer::Unknown,
-        Some(Command::Choose(choice)) => return Ok(Line::Next(choice)),
+    Line::Told(match read_command(name, rest) {
+        None => Err(Fault::Unknown),
+        Some(Command::Choose(choice)) => return Line::Next(choice),
         Some(Command::OnElement(edit)) => desk.edit(edit),
         Some(Command::OnDraft(drafting)) => desk.draft(drafting),
-        Some(Command::OnSelector(ranking)) => player.ranks(ranking),
-        Some(Command::OnCard(asked)) => call(rt, player, desk, asked, rest)?,
-    };
-    Ok(Line::Answered(answer))
+        Some(Command::OnSelector(asked)) => player.ranks(asked),
+        Some(Command::OnCard(asked)) => call(rt, player, desk, asked),
+    })
 }
 
 /// Plays the present line.
@@ -109,23 +103,23 @@ fn play_line<T: Rows, S: Selector>(
     player: &mut Player<T, S>,
     evening: &mut Evening,
 ) -> Result<Line, AllocError>
-    requires { (InOrder T.Tone.kind S.Selector.range S.Selector.ordered player.old.card) × (S.Selector.ordered player.old.own) }
-    ensures in_order { (InOrder T.Tone.kind S.Selector.range S.Selector.ordered player.new.card) × (S.Selector.ordered player.new.own) }
+    requires { IsReady T.Tone.kind S.Selector.range S.Selector.ordered player.old }
+    ensures { IsReady T.Tone.kind S.Selector.range S.Selector.ordered player.new }
 {
     let Some(text) = evening.script.text() else {
-        return Ok(Line::Answered(Answer::Unknown));
+        return Ok(Line::Told(Err(Fault::Unknown)));
     };
     let words: Vec<&str> = text.split_whitespace().collect(rt.alloc())?;
-    play(rt, player, &mut evening.desk, words.as_slice())
+    Ok(play(rt, player, &mut evening.desk, words.as_slice()))
 }
 
-/// Plays lines until another card is asked for or the script is over.
+/// Plays lines until another card is asked for, which goes on with its choice, or the script is over, with so many rows left.
 pub fn session<T: Rows, S: Selector + Drop>(
     rt: &HostRuntime,
     selector: S,
     own: S,
     evening: &mut Evening,
-) -> io::Result<End>
+) -> io::Result<ControlFlow<usize, Choice>>
     requires { (S.Selector.ordered selector) × (S.Selector.ordered own) }
 {
     let mut player = Player::<T, S>::new(rt.alloc(), selector, own);
@@ -135,12 +129,9 @@ pub fn session<T: Rows, S: Selector + Drop>(
         }
         match play_line(rt, &mut player, evening)? {
             Line::Empty => {}
-            Line::Next(choice) => return Ok(End::Next(choice)),
-            Line::Answered(answer) => {
-                evening.tally.count(&answer);
-                println!(rt; "{answer}")?;
-            }
+            Line::Next(choice) => return Ok(ControlFlow::Continue(choice)),
+            Line::Told(told) => evening.tell(rt, told)?,
         }
     }
-    Ok(End::Over(player.left()))
+    Ok(ControlFlow::Break(player.left()))
 }

@@ -1,7 +1,5 @@
-use Rattle.cards.specs.Meanings.{InOrder}
+use Rattle.rehearse.specs.Ready.{IsReady}
 use Rattle.rehearse.proofs.session.session.Given as goal
 
 abbrev pub invariant-loop : goal.invariant-loop
-invariant-loop g l =
-    InOrder g.T.Tone.kind g.S.Selector.range g.S.Selector.ordered l.player.card ×
-    g.S.Selector.ordered l.player.own
+invariant-loop g l = IsReady g.T.Tone.kind g.S.Selector.range g.S.Selector.ordered l.player
