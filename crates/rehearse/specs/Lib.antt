@@ -1,3 +1,3 @@
 pub mod Plays
-pub mod Ready
 pub mod Rooms
+pub mod Seen

@@ -1,9 +1,9 @@
 //! A card with its memory, and a selector of the program's own, on which calls are played.
 
 ghost use Rattle.std.specs.Prelude.{◌≡◌, ℕ};
-ghost use Rattle.cards.specs.Meanings.{state_of};
+ghost use Rattle.cards.specs.Meanings.{InOrder, state_of};
+ghost use Rattle.rehearse.specs.Seen.{Seen};
 ghost use Rattle.rehearse.specs.Plays.{HandsOver, Ranks, TellsDue, TellsLeft, Works};
-ghost use Rattle.rehearse.specs.Ready.{IsReady};
 ghost use Rattle.rehearse.specs.Rooms.{room_of};
 ghost use Rattle.selectors.specs.Played.{after};
 
@@ -14,17 +14,26 @@ use recipes::draft::Draft;
 use selectors::Selector;
 use selectors::calls::{Call, play};
 use std::alloc::Global;
+use std::marker::Model;
 use texts::lists::{rows_read, rows_shown};
 use texts::rows::Rows;
 use tones::{Relief, Tone};
 
 /// The card, its memory, the number of pixels of the card, and the selector.
 #[derive(Drop)]
-pub struct Player<T: Rows, S> {
+pub struct Player<T: Rows, S: Selector> {
     card: Card<T, S>,
     memory: Vec<T::Row>,
     area: usize,
     own: S,
+}
+
+impl<T: Rows, S: Selector> Model for Player<T, S> {
+    ghost Value = { Seen T T.Row S };
+
+    ghost view = { λ p. record { card = p.card; memory = p.memory.items; own = p.own } };
+
+    ghost invariant = { λ p. InOrder T.Tone.kind S.Selector.range S.Selector.ordered p.card × S.Selector.ordered p.own };
 }
 
 /// How many rows the memory has and how many plane 0 has; none where a number is outside its limits.
@@ -45,8 +54,8 @@ pub fn room(opening: Opening) -> Option<(usize, usize)>
 impl<T: Rows, S: Selector> Player<T, S> {
     /// A card without a size.
     pub fn new(heap: Global, selector: S, own: S) -> Player<T, S>
-        requires { (S.Selector.ordered selector) × (S.Selector.ordered own) }
-        ensures ready { IsReady T.Tone.kind S.Selector.range S.Selector.ordered result }
+        requires selector { S.Selector.ordered selector }
+        requires own { S.Selector.ordered own }
     {
         Player {
             card: Card::new(selector),
@@ -62,10 +71,12 @@ impl<T: Rows, S: Selector> Player<T, S> {
     }
 
     /// Opens the card with these rows in plane 0, or zeros where there are none. With rows of another count they are all of the memory, which is then refused unless they fill it.
-    pub fn open(&mut self, heap: Global, opening: Opening, words: &[&str]) -> Result<Answer, Fault>
-        requires { IsReady T.Tone.kind S.Selector.range S.Selector.ordered self.old }
-        ensures ready { IsReady T.Tone.kind S.Selector.range S.Selector.ordered self.new }
-    {
+    pub fn open(
+        &mut self,
+        heap: Global,
+        opening: Opening,
+        words: &[&str],
+    ) -> Result<Answer, Fault> {
         let mut rows = rows_read::<T>(heap, words)?;
         let mut pixels = 0;
         if let Some((all, area)) = room(opening) {
@@ -87,9 +98,7 @@ impl<T: Rows, S: Selector> Player<T, S> {
 
     /// Hands a draft over; not read without one.
     pub fn install(&mut self, draft: Option<Draft>) -> Result<Answer, Fault>
-        requires { IsReady T.Tone.kind S.Selector.range S.Selector.ordered self.old }
-        ensures outcome { HandsOver T.Tone.kind (state_of S.Selector.weight self.old.card self.old.memory.items) draft result (state_of S.Selector.weight self.new.card self.new.memory.items) }
-        ensures ready { IsReady T.Tone.kind S.Selector.range S.Selector.ordered self.new }
+        ensures outcome { HandsOver T.Tone.kind (state_of S.Selector.weight self.old.card self.old.memory) draft result (state_of S.Selector.weight self.new.card self.new.memory) }
     {
         let draft = draft.ok_or(Fault::Unknown)?;
         self.card.install(self.memory.as_slice(), draft)?;
@@ -97,10 +106,7 @@ impl<T: Rows, S: Selector> Player<T, S> {
     }
 
     /// Writes these rows into a rectangle.
-    pub fn patch(&mut self, heap: Global, patch: Patch, words: &[&str]) -> Result<Answer, Fault>
-        requires { IsReady T.Tone.kind S.Selector.range S.Selector.ordered self.old }
-        ensures ready { IsReady T.Tone.kind S.Selector.range S.Selector.ordered self.new }
-    {
+    pub fn patch(&mut self, heap: Global, patch: Patch, words: &[&str]) -> Result<Answer, Fault> {
         let rows = rows_read::<T>(heap, words)?;
         let Patch {
             x,
@@ -116,9 +122,7 @@ impl<T: Rows, S: Selector> Player<T, S> {
 
     /// Redoes rows, at most as many as the budget.
     pub fn work(&mut self, budget: usize) -> Result<Answer, Fault>
-        requires { IsReady T.Tone.kind S.Selector.range S.Selector.ordered self.old }
-        ensures outcome { Works T.Tone.kind (state_of S.Selector.weight self.old.card self.old.memory.items) budget result (state_of S.Selector.weight self.new.card self.new.memory.items) }
-        ensures ready { IsReady T.Tone.kind S.Selector.range S.Selector.ordered self.new }
+        ensures outcome { Works T.Tone.kind (state_of S.Selector.weight self.old.card self.old.memory) budget result (state_of S.Selector.weight self.new.card self.new.memory) }
     {
         let rows = self.card.work(self.memory.as_mut_slice(), budget)?;
         Ok(Answer::Counted(rows as u64))
@@ -132,14 +136,14 @@ impl<T: Rows, S: Selector> Player<T, S> {
 
     /// Tells the stale rows.
     pub fn tell_left(&self) -> Answer
-        ensures { TellsLeft T.Tone.kind (state_of S.Selector.weight self.now.card self.now.memory.items) result }
+        ensures { TellsLeft T.Tone.kind (state_of S.Selector.weight self.now.card self.now.memory) result }
     {
         Answer::Number(self.card.left() as u64)
     }
 
     /// Tells the next row.
     pub fn tell_due(&self) -> Answer
-        ensures { TellsDue T.Tone.kind (state_of S.Selector.weight self.now.card self.now.memory.items) result }
+        ensures { TellsDue T.Tone.kind (state_of S.Selector.weight self.now.card self.now.memory) result }
     {
         Answer::Due(self.card.due())
     }
@@ -152,10 +156,7 @@ impl<T: Rows, S: Selector> Player<T, S> {
     }
 
     /// Patches the card with a file; not read without one, or where the kind has no files.
-    pub fn load(&mut self, x: usize, y: usize, file: Option<Vec<u8>>) -> Result<Answer, Fault>
-        requires { IsReady T.Tone.kind S.Selector.range S.Selector.ordered self.old }
-        ensures ready { IsReady T.Tone.kind S.Selector.range S.Selector.ordered self.new }
-    {
+    pub fn load(&mut self, x: usize, y: usize, file: Option<Vec<u8>>) -> Result<Answer, Fault> {
         let bytes = file.ok_or(Fault::Unknown)?;
         let memory = self.memory.as_mut_slice();
         T::load(&mut self.card, memory, x, y, bytes.as_slice())?;
@@ -171,10 +172,8 @@ impl<T: Rows, S: Selector> Player<T, S> {
 
     /// Makes the call on the program's own selector.
     pub fn ranks(&mut self, call: Call) -> Result<Answer, Fault>
-        requires { IsReady T.Tone.kind S.Selector.range S.Selector.ordered self.old }
         ensures answer { Ranks (S.Selector.weight self.old.own) (S.Selector.range self.old.own) call result }
         ensures weights { (c : ℕ) → S.Selector.weight self.new.own c ≡ after (S.Selector.weight self.old.own) (S.Selector.range self.old.own) call c }
-        ensures ready { IsReady T.Tone.kind S.Selector.range S.Selector.ordered self.new }
     {
         let reply = play(&mut self.own, call)?;
         Ok(reply.into())

@@ -1,7 +1,5 @@
 //! Plays the lines of a script on one card, until another is asked for.
 
-ghost use Rattle.rehearse.specs.Ready.{IsReady};
-
 use crate::player::Player;
 use crate::script::{Script, bytes_of};
 use lines::answers::{Answer, Fault};
@@ -52,10 +50,7 @@ fn call<T: Rows, S: Selector>(
     player: &mut Player<T, S>,
     desk: &mut Desk,
     call: Call,
-) -> Result<Answer, Fault>
-    requires { IsReady T.Tone.kind S.Selector.range S.Selector.ordered player.old }
-    ensures { IsReady T.Tone.kind S.Selector.range S.Selector.ordered player.new }
-{
+) -> Result<Answer, Fault> {
     let heap = rt.alloc();
     match call {
         Call::Open(opening, rows) => player.open(heap, opening, rows),
@@ -77,10 +72,7 @@ fn play<T: Rows, S: Selector>(
     player: &mut Player<T, S>,
     desk: &mut Desk,
     words: &[&str],
-) -> Line
-    requires { IsReady T.Tone.kind S.Selector.range S.Selector.ordered player.old }
-    ensures { IsReady T.Tone.kind S.Selector.range S.Selector.ordered player.new }
-{
+) -> Line {
     let [name, rest @ ..] = words else {
         return Line::Empty;
     };
@@ -102,10 +94,7 @@ fn play_line<T: Rows, S: Selector>(
     rt: &HostRuntime,
     player: &mut Player<T, S>,
     evening: &mut Evening,
-) -> Result<Line, AllocError>
-    requires { IsReady T.Tone.kind S.Selector.range S.Selector.ordered player.old }
-    ensures { IsReady T.Tone.kind S.Selector.range S.Selector.ordered player.new }
-{
+) -> Result<Line, AllocError> {
     let Some(text) = evening.script.text() else {
         return Ok(Line::Told(Err(Fault::Unknown)));
     };
@@ -120,7 +109,8 @@ pub fn session<T: Rows, S: Selector + Drop>(
     own: S,
     evening: &mut Evening,
 ) -> io::Result<ControlFlow<usize, Choice>>
-    requires { (S.Selector.ordered selector) × (S.Selector.ordered own) }
+    requires selector { S.Selector.ordered selector }
+    requires own { S.Selector.ordered own }
 {
     let mut player = Player::<T, S>::new(rt.alloc(), selector, own);
     for _ in 0..u64::MAX {
