@@ -11,7 +11,9 @@ use crate::window::Window;
 use selectors::Selector;
 use tones::Tone;
 
-// That the selector is in order and that the kind's codes are in its range stand in each contract: `ordered` may be any type, and a ghost field takes a fact with one proof at most.
+// That the selector is in order and that the kind's codes are in its range stand in each contract: a ghost field takes no
+// fact that may have two proofs, as `ordered` may, and a struct over the lent selector with a model leaves its caller
+// knowing nothing of the selector once it is let go.
 
 /// Puts what a tap reads, if that lies on the card.
 fn put_tap<T: Tone, S: Selector>(selector: &mut S, tap: &Tap, site: &Site<T>)
