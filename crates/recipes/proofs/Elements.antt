@@ -1,13 +1,12 @@
 -- What is known of every element.
-use Rattle.std.proofs.Common.{◌≡◌, ℕ, ◌+◌, ◌<◌, ◌≤◌, max, true, ◌&&◌, List, [], ◌∷◌, ◌++◌, length, get_or, take, ℤ, pos, nat_abs, refl, ⊎_elim, arith}
+use Rattle.std.proofs.Common.{◌≡◌, ℕ, ◌<◌, ◌≤◌, max, true, ◌&&◌, List, [], ◌∷◌, ◌++◌, length, get_or, ℤ, pos, nat_abs, refl, ⊎_elim, arith}
 use Rattle.std.specs.List.{ContainsAt as Has, AllByRecursion}
-use Rattle.std.proofs.lemmas.List.{take_more}
 use Rattle.std.proofs.ByRecursion.{All-get_or, All-weaker, has_append_right}
 use Rattle.std.proofs.lemmas.Bool.Decides.{nat_tests}
 use Rattle.std.proofs.lemmas.Bool.{and_parts, cases_lt}
 use Rattle.recipes.specs.declared.places.Place.{Place}
 use Rattle.recipes.specs.declared.element.Element.{Element}
-use Rattle.recipes.specs.Places.{origin, limited, stands_at, core, Limits}
+use Rattle.recipes.specs.Places.{limited, stands_at, core, Limits}
 use Rattle.std.specs.List.{list_all}
 use Rattle.recipes.specs.Lawful.{lawful_order}
 use Rattle.recipes.specs.Placed.{placed}
@@ -16,9 +15,6 @@ use Rattle.recipes.proofs.Passing.{any_has}
 use Rattle.recipes.proofs.Room.{limits}
 use Rattle.recipes.proofs.Keeps.{sound}
 use Rattle.recipes.proofs.Arrays.{length_placed}
-
-pub placed_few : (e : Element) → length (placed e) ≤ 49
-placed_few e = omega (arith, length_placed e, e.within)
 
 all_limits : (ps : List Place) → list_all limited ps ≡ true → AllByRecursion Limits ps
 all_limits [] e = tt
@@ -48,10 +44,6 @@ module _ (d : Place → ℤ) where
   unfolding reach
   reach_push [] p = omega arith
   reach_push (q ∷ ps) p = omega (arith, reach_push ps p)
-
-  -- a loop's step
-  pub reach_more : (ps : List Place) (i r : ℕ) → i < length ps → r ≡ reach d (take i ps) → max r (nat_abs (d (get_or ps i origin))) ≡ reach d (take (i + 1) ps)
-  reach_more ps i r h e = rw (take_more ps i origin h, reach_push (take i ps) (get_or ps i origin), e)
 
   pub reach_bounds : (ps : List Place) → AllByRecursion (λ p. nat_abs (d p) ≤ reach d ps) ps
   unfolding reach

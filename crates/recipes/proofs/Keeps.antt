@@ -1,15 +1,16 @@
 -- What keeps an element lawful.
-use Rattle.std.proofs.Common.{◌≡◌, ℕ, ◌<◌, Bool, true, false, cond, not, ◌&&◌, leb, List, [], ◌∷◌, ◌++◌, map, length, ℤ, pos, nat_abs, refl, ◌∙◌, arith}
+use Rattle.std.proofs.Common.{◌≡◌, ℕ, zero, suc, ◌<◌, Bool, true, false, cond, not, ◌&&◌, leb, List, [], ◌∷◌, ◌++◌, map, length, get_or, set, ℤ, pos, nat_abs, sym, refl, ap, ◌∙◌, arith}
 use Rattle.std.proofs.lemmas.List.{length_push, length-map}
 use Rattle.std.proofs.lemmas.List.Sums.{sum_by_push}
 use Rattle.std.proofs.lemmas.Bool.Decides.{nat_tests}
 use Rattle.std.proofs.lemmas.Bool.{and_parts, and_from, or_parts, or_left, not-true, not_from_false}
 use Rattle.recipes.specs.declared.places.Place.{Place}
-use Rattle.recipes.specs.Places.{stands_at, taken, in_limits, limited, core, soft, amended}
+use Rattle.std.proofs.lemmas.List.Folds.{list_any_at}
+use Rattle.recipes.specs.Places.{same, stands_at, taken, in_limits, limited, core, soft, amended}
 use Rattle.std.specs.List.{list_any, list_all}
 use Rattle.recipes.specs.Lawful.{apart, lawful, lawful_order}
 use Rattle.recipes.proofs.Passing.{any_push, all_push, any_map, all_map, countBy_map}
-use Rattle.recipes.proofs.Spots.{stands_flip}
+use Rattle.recipes.proofs.Spots.{same_from, stands_flip}
 use Rattle.recipes.proofs.Room.{room}
 
 -- a place at the origin, in the core
@@ -109,3 +110,33 @@ module _ (dx dy amount : ℤ) where
         single = apart_amended ps ∙ s.single;
         ordered = rw (length-map ps (amended dx dy amount), countBy_map soft (amended dx dy amount) amended_soft ps) s.ordered;
       })
+
+  -- no place stands there: none is amended
+  amended_none : (ps : List Place) → taken dx dy ps ≡ false → map (amended dx dy amount) ps ≡ ps
+  amended_none [] t = refl
+  amended_none (p ∷ ps) t =
+      let b = or_parts (stands_at dx dy p) (taken dx dy ps) t in
+      rw (b.0, amended_none ps b.1)
+
+  -- where a place stands, no later one does
+  alone : (p : Place) (ps : List Place) → stands_at dx dy p ≡ true → taken p.dx p.dy ps ≡ false → taken dx dy ps ≡ false
+  alone p ps s t =
+      let b = and_parts (same p.dx dx) (same p.dy dy) s in
+      rw (← same_from p.dx dx b.0, ← same_from p.dy dy b.1) t
+
+  -- one stands there: it alone is amended
+  pub amended_one : (ps : List Place) (i : ℕ) (d : Place) → apart ps ≡ true → i < length ps → stands_at dx dy (get_or ps i d) ≡ true →
+      map (amended dx dy amount) ps ≡ set ps i (record { dx = (get_or ps i d).dx; dy = (get_or ps i d).dy; part = (get_or ps i d).part; amount = amount })
+  unfolding apart
+  amended_one [] i d a h s = absurd (omega arith)
+  amended_one (p ∷ ps) zero d a h s =
+      let b = and_parts (not (taken p.dx p.dy ps)) (apart ps) a in
+      rw (s, amended_none ps (alone p ps s (not-true (taken p.dx p.dy ps) b.0)))
+  amended_one (p ∷ ps) (suc i) d a h s =
+      let b = and_parts (not (taken p.dx p.dy ps)) (apart ps) a in
+      let rest = amended_one ps i d b.1 (omega arith) s in
+      let go : (x : Bool) → stands_at dx dy p ≡ x → x ≡ false = λ x. elim x as (λ x. stands_at dx dy p ≡ x → x ≡ false) [
+        | true ↦ λ e. sym (list_any_at (stands_at dx dy) ps i d (omega arith) s) ∙ alone p ps e (not-true (taken p.dx p.dy ps) b.0)
+        | false ↦ λ e. refl
+      ] in
+      rw (go (stands_at dx dy p) refl) (ap (λ qs. p ∷ qs) rest)

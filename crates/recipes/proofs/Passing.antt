@@ -1,53 +1,44 @@
 -- Tests over all items of a list.
-use Rattle.std.proofs.Common.{◌≡◌, ℕ, ◌+◌, ◌<◌, ◌≤◌, Bool, true, false, cond, ◌&&◌, ◌||◌, List, [], ◌∷◌, ◌++◌, map, length, get_or, drop, count_by, sym, refl, ap, ◌∙◌, ⊎_elim, arith}
-use Rattle.std.proofs.lemmas.List.{at_drop_more, at_drop_all}
-use Rattle.std.proofs.lemmas.Bool.{and_parts, and_from, or_cases, false≢true}
+use Rattle.std.proofs.Common.{Some, None, ◌≡◌, ℕ, suc, ◌+◌, Bool, true, false, cond, ltb, ◌&&◌, ◌||◌, List, [], ◌∷◌, ◌++◌, map, length, count_by, sym, refl, ap, ◌∙◌, ⊎_elim, arith}
+use Rattle.std.proofs.lemmas.List.Folds.{list_any-append, list_all-append}
+use Rattle.std.proofs.lemmas.Bool.Decides.{nat_tests}
+use Rattle.std.proofs.lemmas.Bool.{and_parts, and_from, or_cases, false≢true, lt-ltb}
 use Rattle.std.proofs.ByRecursion.{has_append_right}
 use Rattle.std.proofs.lemmas.List.Sums.{sum_by-cons}
-use Rattle.std.specs.List.{ContainsAt as Has}
-use Rattle.std.specs.List.{list_any, list_all}
+use Rattle.std.specs.List.{ContainsAt as Has, list_any, list_all, position, position_or_len}
+use Rattle.std.specs.Option.{is_some}
 
-or_assoc : (a b c : Bool) → (a || (b || c)) ≡ ((a || b) || c)
-or_assoc true b c = refl
-or_assoc false b c = refl
-
-or_false : (a : Bool) → a ≡ (a || false)
+or_false : (a : Bool) → (a || false) ≡ a
 or_false true = refl
 or_false false = refl
 
-and_assoc : (a b c : Bool) → (a && (b && c)) ≡ ((a && b) && c)
-and_assoc true b c = refl
-and_assoc false b c = refl
-
-and_true : (a : Bool) → a ≡ (a && true)
+and_true : (a : Bool) → (a && true) ≡ a
 and_true true = refl
 and_true false = refl
 
+found : {X : Type 0} (b : Bool) (x : X) → is_some (cond b (Some x) None) ≡ b
+found true x = refl
+found false x = refl
+
 module _ {X : Type 0} (test : X → Bool) where
   pub any_push : (xs : List X) (x : X) → list_any test (xs ++ x ∷ []) ≡ (list_any test xs || test x)
-  any_push [] x = sym (or_false (test x))
-  any_push (y ∷ xs) x = ap (λ b. test y || b) (any_push xs x) ∙ or_assoc (test y) (list_any test xs) (test x)
+  any_push xs x = list_any-append test xs (x ∷ []) ∙ ap (λ b. list_any test xs || b) (or_false (test x))
 
   pub all_push : (xs : List X) (x : X) → list_all test (xs ++ x ∷ []) ≡ (list_all test xs && test x)
-  all_push [] x = sym (and_true (test x))
-  all_push (y ∷ xs) x = ap (λ b. test y && b) (all_push xs x) ∙ and_assoc (test y) (list_all test xs) (test x)
+  all_push xs x = list_all-append test xs (x ∷ []) ∙ ap (λ b. list_all test xs && b) (and_true (test x))
 
-  -- a loop's steps, over what is left of the list
-  pub any_left : (xs : List X) (i : ℕ) (d : X) → i < length xs → list_any test (drop i xs) ≡ (test (get_or xs i d) || list_any test (drop (i + 1) xs))
-  any_left xs i d h = at_drop_more (list_any test) xs i d h
+  -- an item passes where the first that does has a position
+  first_before : (xs : List X) → ltb (position_or_len test xs) (length xs) ≡ list_any test xs
+  first_before [] = refl
+  first_before (x ∷ xs) =
+      let go : (b : Bool) → test x ≡ b → ltb (position_or_len test (x ∷ xs)) (suc (length xs)) ≡ (test x || list_any test xs) = λ b. elim b as (λ b. test x ≡ b → ltb (position_or_len test (x ∷ xs)) (suc (length xs)) ≡ (test x || list_any test xs)) [
+        | true ↦ λ e. rw e (lt-ltb 0 (suc (length xs)) (omega arith))
+        | false ↦ λ e. let s : ltb (1 + position_or_len test xs) (suc (length xs)) ≡ ltb (position_or_len test xs) (length xs) = grind (arith, nat_tests) in rw e (s ∙ first_before xs)
+      ] in
+      go (test x) refl
 
-  pub all_left : (xs : List X) (i : ℕ) (d : X) → i < length xs → list_all test (drop i xs) ≡ (test (get_or xs i d) && list_all test (drop (i + 1) xs))
-  all_left xs i d h = at_drop_more (list_all test) xs i d h
-
-  -- the same, where items are read as values
-  pub all_left_at : (xs : List X) (i : ℕ) (x : X) → i < length xs → x ≡ get_or xs i x → list_all test (drop i xs) ≡ (test x && list_all test (drop (i + 1) xs))
-  all_left_at xs i x h e = all_left xs i x h ∙ ap (λ y. test y && list_all test (drop (i + 1) xs)) (sym e)
-
-  pub any_none : (xs : List X) (i : ℕ) → length xs ≤ i → list_any test (drop i xs) ≡ false
-  any_none xs i h = at_drop_all (list_any test) xs i h
-
-  pub all_none : (xs : List X) (i : ℕ) → length xs ≤ i → list_all test (drop i xs) ≡ true
-  all_none xs i h = at_drop_all (list_all test) xs i h
+  pub any_position : (xs : List X) → list_any test xs ≡ is_some (position test xs)
+  any_position xs = sym (found (ltb (position_or_len test xs) (length xs)) (position_or_len test xs) ∙ first_before xs)
 
   -- a change of the items that the test does not see
   pub any_map : (f : X → X) → ((x : X) → test (f x) ≡ test x) → (xs : List X) → list_any test (map f xs) ≡ list_any test xs

@@ -3,8 +3,8 @@
 ghost use Rattle.recipes.specs.Edits.{place_answer, amount_answer, order_answer};
 ghost use Rattle.recipes.specs.Lawful.{lawful_order};
 ghost use Rattle.recipes.specs.Placed.{placed};
-ghost use Rattle.recipes.specs.Places.{origin, taken, in_limits, limited, soft, amended};
-ghost use Rattle.std.specs.Prelude.{◌≡◌, true, false, [], ◌∷◌, ◌++◌, map, is_ok, if◌then◌else◌, count_by, OnErr};
+ghost use Rattle.recipes.specs.Places.{origin, stands_at, taken, in_limits, limited, soft, amended};
+ghost use Rattle.std.specs.Prelude.{◌≡◌, true, false, [], ◌∷◌, ◌++◌, map, position, is_ok, if◌then◌else◌, count_by, OnErr};
 
 use crate::element::Element;
 use crate::places::{Part, Place};
@@ -62,10 +62,10 @@ impl Element {
         if !in_limits(dx, dy, amount) {
             return Err(ElementRefusal::Outside);
         }
-        if !self.taken(dx, dy) {
+        let Some(i) = self.position(dx, dy) else {
             return Err(ElementRefusal::Missing);
-        }
-        amend(&mut self.places, dx, dy, amount);
+        };
+        self.places[i].amount = amount;
         Ok(())
     }
 
@@ -101,6 +101,15 @@ impl Element {
         self.places().iter().any(|place| place.stands_at(dx, dy))
     }
 
+    /// Where among the places the one at these offsets is.
+    fn position(&self, dx: i32, dy: i32) -> Option<usize>
+        ensures { result ≡ position (stands_at dx dy) (placed self.now) }
+    {
+        self.places()
+            .iter()
+            .position(|place| place.stands_at(dx, dy))
+    }
+
     /// The number of soft places.
     fn softs(&self) -> usize
         ensures { result ≡ count_by soft (placed self.now) }
@@ -121,13 +130,4 @@ fn in_limits(dx: i32, dy: i32, amount: i32) -> bool
     ensures { result ≡ in_limits dx dy amount }
 {
     dx.unsigned_abs() <= 3 && dy.unsigned_abs() <= 3 && amount.unsigned_abs() <= 1024
-}
-
-/// Sets the amount of what stands at these offsets.
-fn amend(places: &mut [Place], dx: i32, dy: i32, amount: i32)
-    ensures { places.new ≡ map (amended dx dy amount) places.old }
-{
-    for place in places.iter_mut() {
-        *place = place.amended(dx, dy, amount);
-    }
 }

@@ -1,6 +1,6 @@
 //! A place of a structuring element.
 
-ghost use Rattle.recipes.specs.Places.{stands_at, amended, soft};
+ghost use Rattle.recipes.specs.Places.{stands_at, soft};
 ghost use Rattle.std.specs.Prelude.{◌≡◌};
 
 /// The part of an element that a place belongs to: its core or its soft boundary.
@@ -25,17 +25,6 @@ impl Place {
         ensures { result ≡ stands_at dx dy self.now }
     {
         self.dx == dx && self.dy == dy
-    }
-
-    /// The place with another amount if it stands at these offsets, else as it is.
-    pub(crate) fn amended(&self, dx: i32, dy: i32, amount: i32) -> Place
-        ensures { result ≡ amended dx dy amount self.now }
-    {
-        if self.stands_at(dx, dy) {
-            Place { amount, ..*self }
-        } else {
-            *self
-        }
     }
 
     /// Whether the place belongs to the soft boundary.

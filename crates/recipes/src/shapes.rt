@@ -71,8 +71,7 @@ impl Element {
 }
 
 /// The place of cell n of the 7 × 7 square, counted row by row: in the core at the origin, else soft.
-fn cell(n: usize) -> Place
-    requires { n < 49 }
+fn cell(n: u8) -> Place
     ensures { result ≡ standard_place (pos (n % 7) -ℤ pos 3) (pos (n / 7) -ℤ pos 3) }
 {
     let dx = (n % 7) as i32 - 3;
@@ -95,14 +94,13 @@ fn shaped(shape: Shape) -> Element
     ensures places { placed result ≡ standard_places shape }
     ensures order { result.order ≡ 1 }
 {
+    // Not by the element's `push`: there is no element before the origin is met.
     let mut places = [ORIGIN; 49];
     let mut count = 0;
-    for n in 0..49 {
-        let place = cell(n);
-        if shape.contains(place.dx, place.dy) {
-            places[count] = place;
-            count += 1;
-        }
+    let cells = (0..49).map(cell);
+    for place in cells.filter(|place| shape.contains(place.dx, place.dy)) {
+        places[count] = place;
+        count += 1;
     }
     Element {
         places,

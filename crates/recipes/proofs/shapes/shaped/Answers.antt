@@ -1,26 +1,51 @@
-use Rattle.std.proofs.Common.{◌<◌, length, refl, ap, ◌∙◌, arith, w32, SFits, rules}
-use Rattle.std.proofs.lemmas.List.{length-set}
-use Rattle.std.proofs.lemmas.Int.{to_z-of_z}
+use Rattle.std.proofs.Common.{◌<◌, ◌∷◌, [], ◌++◌, length, refl, sym, ap, ◌∙◌, arith, rules}
+use Rattle.std.proofs.lemmas.Iterator.{YieldsList-from_range, YieldsList-from_map}
+use Rattle.std.proofs.lemmas.Iterator.Consumers.{YieldsList-from_filter, YieldsList-turn, YieldsList-end}
+use Rattle.std.proofs.lemmas.List.{length-set, length_push, take_more_set, map-id}
 use Rattle.recipes.specs.Lawful.{lawful}
-use Rattle.recipes.proofs.Grid.{met_yes, met_no, met_all, shape_lawful}
+use Rattle.recipes.specs.Shapes.{in_shape}
+use Rattle.recipes.proofs.Grid.{cell_place, shape_counted, shape_few, shape_lawful}
 use Rattle.recipes.proofs.shapes.shaped.Goals as goal
-use Rattle.recipes.proofs.shapes.shaped.Goals.{then-contains, else-contains}
 
-pub loop-n-preserved : goal.loop-n-preserved
-loop-n-preserved c =
-    let fx : SFits w32 c.cell-place.result.dx = search rules in
-    let fy : SFits w32 c.cell-place.result.dy = search rules in
-    let step = met_yes c.args.shape c.loop-n.n c.loop-n-test.true c.cell-place.result c.cell-place.ensures c.loop-n.places c.loop-n.count c.loop-n.invariant.2 in
-    let pass = met_no c.args.shape c.loop-n.n c.loop-n-test.true c.cell-place.result c.cell-place.ensures c.loop-n.places c.loop-n.count c.loop-n.invariant.2 in
-    elim c.if-contains.branch [
-      | then-contains w ↦ (let room : c.loop-n.count < length c.loop-n.places = omega arith in let e = step room (simp to_z-of_z at w.if-contains.ensures) in let p = w.places-is in let n = w.count-is in (ap length p ∙ length-set _ _ _ ∙ c.loop-n.invariant.0, omega arith, cc))
-      | else-contains w ↦ (let e = pass (simp to_z-of_z at w.if-contains.ensures) in let p = w.places-is in let n = w.count-is in (ap length p ∙ c.loop-n.invariant.0, omega arith, cc))
-    ]
+pub bounds-places-count : goal.bounds-places-count
+bounds-places-count c =
+    let t =
+    YieldsList-turn
+    (YieldsList-from_filter _ (λ p. in_shape c.args.shape p.dx p.dy) {f = c.filter-place-items.result.p} (YieldsList-from_map _ cell_place (YieldsList-from_range 0 49 49 (cc) refl) (cc) (λ x r q k. search rules)) (cc) (λ x b q k. search rules))
+    c.loop-place.yielded _ c.loop-place.yielded_by _ _ c.in-Some.place c.in-Some.is c.next.ensures.steps in
+    omega (arith, t.0, ap length (shape_counted c.args.shape), shape_few c.args.shape, c.loop-place.invariant.3)
+
+pub loop-place-preserved : goal.loop-place-preserved
+loop-place-preserved c =
+    let t =
+    YieldsList-turn
+    (YieldsList-from_filter _ (λ p. in_shape c.args.shape p.dx p.dy) {f = c.filter-place-items.result.p} (YieldsList-from_map _ cell_place (YieldsList-from_range 0 49 49 (cc) refl) (cc) (λ x r q k. search rules)) (cc) (λ x b q k. search rules))
+    c.loop-place.yielded _ c.loop-place.yielded_by _ _ c.in-Some.place c.in-Some.is c.next.ensures.steps in
+    let room : c.loop-place.count < length c.loop-place.places = omega (arith, t.0, ap length (shape_counted c.args.shape), shape_few c.args.shape, c.loop-place.invariant.2, c.loop-place.invariant.3) in (
+      search rules,
+      search rules,
+      length-set _ _ _ ∙ c.loop-place.invariant.2,
+      omega (arith, length_push c.loop-place.yielded c.in-Some.place, c.loop-place.invariant.3),
+      take_more_set c.loop-place.places c.loop-place.count c.in-Some.place room ∙ ap (λ ps. ps ++ c.in-Some.place ∷ []) c.loop-place.invariant.4,
+    )
 
 pub invariant_of-result : goal.invariant_of-result
 invariant_of-result c =
-    let list_all = c.loop-n.invariant.2 ∙ met_all c.args.shape c.loop-n.n c.loop-n-test.false in
-    record { long = c.loop-n.invariant.0; within = omega arith; sound = ap (λ ps. lawful ps 1) list_all ∙ shape_lawful c.args.shape }
+    let t =
+    YieldsList-end
+    (YieldsList-from_filter _ (λ p. in_shape c.args.shape p.dx p.dy) {f = c.filter-place-items.result.p} (YieldsList-from_map _ cell_place (YieldsList-from_range 0 49 49 (cc) refl) (cc) (λ x r q k. search rules)) (cc) (λ x b q k. search rules))
+    c.loop-place.yielded _ c.loop-place.yielded_by _ _ c.in-None.is c.next.ensures.steps in
+    let all = c.loop-place.invariant.4 ∙ sym (map-id c.loop-place.yielded) ∙ t.0 ∙ shape_counted c.args.shape in
+    record {
+      long = c.loop-place.invariant.2;
+      within = omega (arith, t.1, ap length (shape_counted c.args.shape), shape_few c.args.shape, c.loop-place.invariant.3);
+      sound = ap (λ ps. lawful ps 1) all ∙ shape_lawful c.args.shape;
+    }
 
 pub returns : goal.returns
-returns c = record { places = c.loop-n.invariant.2 ∙ met_all c.args.shape c.loop-n.n c.loop-n-test.false; order = refl }
+returns c =
+    let t =
+    YieldsList-end
+    (YieldsList-from_filter _ (λ p. in_shape c.args.shape p.dx p.dy) {f = c.filter-place-items.result.p} (YieldsList-from_map _ cell_place (YieldsList-from_range 0 49 49 (cc) refl) (cc) (λ x r q k. search rules)) (cc) (λ x b q k. search rules))
+    c.loop-place.yielded _ c.loop-place.yielded_by _ _ c.in-None.is c.next.ensures.steps in
+    record { places = c.loop-place.invariant.4 ∙ sym (map-id c.loop-place.yielded) ∙ t.0 ∙ shape_counted c.args.shape; order = refl }

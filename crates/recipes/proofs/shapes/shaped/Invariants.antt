@@ -1,7 +1,8 @@
-use Rattle.std.proofs.Common.{◌≡◌, ◌≤◌, length, take, filter}
-use Rattle.recipes.specs.Shapes.{in_shape, grid}
+use Rattle.std.proofs.Common.{◌≡◌, length, take}
 use Rattle.recipes.proofs.shapes.shaped.Given as goal
 
-abbrev pub invariant-loop-n : goal.invariant-loop-n
-invariant-loop-n l =
-    (length l.places ≡ 49) × (l.count ≤ l.n) × (take l.count l.places ≡ filter (λ p. in_shape l.shape p.dx p.dy) (take l.n grid))
+-- the places so far are stored
+abbrev pub invariant-loop-place : goal.invariant-loop-place
+invariant-loop-place l =
+    (goal.iterator-loop-place).can_next l.place-iterator × (goal.iterator-loop-place).is_finite l.place-iterator
+    × (length l.places ≡ 49) × (l.count ≡ length l.yielded) × (take l.count l.places ≡ l.yielded)
