@@ -31,6 +31,7 @@ impl Draft {
         ensures declared { self.new.declared ≡ self.old.declared }
         ensures kept { OnErr result (self.new ≡ self.old) }
     {
+        // By four char literals, as the project's rules ask.
         match letter {
             'E' => self.push(Letter::Erosion, element),
             'D' => self.push(Letter::Dilation, element),
