@@ -1,13 +1,20 @@
-use Rattle.std.proofs.Common.{◌≡◌, length, Some, ap, ◌∙◌, rules}
+use Rattle.std.proofs.Common.{◌≡◌, length, Some, subst, ap, ◌∙◌, rules}
+use Rattle.planes.specs.declared.size.Size.{Size}
+use Rattle.planes.specs.Sizes.{Limits}
 use Rattle.calls.specs.Calls.{room}
+use Rattle.calls.specs.Opening.{fresh}
 use Rattle.calls.proofs.Promises.{keeps_promise}
 use Rattle.sheets.specs.Meanings.{notes_of}
 use Rattle.cards.proofs.card.Card.open.Goals as goal
 
 pub returns-clause-promise : goal.returns-clause-promise
 returns-clause-promise g c =
-    keeps_promise g.T.Tone.kind g.met.T.Tone.lawful _ c.args.stages _ (record {
-      notes = ap Some c.fresh-sheet.ensures;
-      limits = search rules;
-      memory = let long : length c.args.memory.now ≡ room (notes_of c.fresh-sheet.result) = search rules in long ∙ ap room c.fresh-sheet.ensures;
+    let size : Size = record { width = c.args.width; height = c.args.height } in
+    let sized : c.in_ok-frame.frame.size ≡ size = search rules in
+    let made : notes_of c.fresh-sheet.result ≡ fresh c.args.width c.args.height c.args.stages = c.fresh-sheet.ensures ∙ ap (λ (z : Size). fresh z.width z.height c.args.stages) sized in
+    let long : length c.args.memory.now ≡ room (notes_of c.fresh-sheet.result) = search rules in
+    keeps_promise g.T.Tone.kind g.met.T.Tone.lawful size c.args.stages _ (record {
+      notes = ap Some made;
+      limits = subst Limits sized c.in_ok-frame.frame.within;
+      memory = long ∙ ap room made;
     })
