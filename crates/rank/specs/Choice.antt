@@ -3,8 +3,8 @@ use Rattle.std.specs.Prelude.{ℕ}
 use Rattle.selectors.specs.contracts.gate.GateSelector.TheImpl as gate
 use Rattle.selectors.specs.contracts.histogram.HistogramSelector.TheImpl as histogram
 use Rattle.selectors.specs.contracts.ladder.LadderSelector.TheImpl as ladder
-use Rattle.rank.specs.declared.call.Kind.{Kind}
-use Rattle.rank.specs.declared.call.Kind.TheVariants.{Gate, Histogram, Ladder}
+use Rattle.selectors.specs.declared.calls.Kind.{Kind}
+use Rattle.selectors.specs.declared.calls.Kind.TheVariants.{Gate, Histogram, Ladder}
 use Rattle.rank.specs.declared.chosen.Chosen.{Chosen}
 use Rattle.rank.specs.declared.chosen.Chosen.TheVariants.{OfGate, OfHistogram, OfLadder}
 

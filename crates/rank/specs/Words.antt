@@ -1,17 +1,10 @@
 -- What the words of a line say. Assumes nothing.
 use Rattle.std.specs.Prelude.{◌≡◌, ℕ, ◌^◌, ◌<◌, List, Some, None, codes, Option}
 use Rattle.std.specs.Str.Parse.{IsNumeral, digits_value, without_leading_plus}
-use Rattle.rank.specs.declared.call.Kind.{Kind}
-use Rattle.rank.specs.declared.call.Kind.TheVariants.{Gate, Histogram, Ladder}
-use Rattle.rank.specs.declared.call.Call.TheVariants.{Put, Total, Select, Empty}
-use Rattle.rank.specs.declared.call.Command.{Command}
-use Rattle.rank.specs.declared.call.Command.TheVariants.{Choose, Ask}
-
--- the word that names a kind
-abbrev pub name_of : Kind → List ℕ
-name_of Gate = codes "gate"
-name_of Histogram = codes "histogram"
-name_of Ladder = codes "ladder"
+use Rattle.selectors.specs.declared.calls.Call.TheVariants.{Put, Total, Select, Empty}
+use Rattle.selectors.specs.Played.{name_of}
+use Rattle.rank.specs.declared.command.Command.{Command}
+use Rattle.rank.specs.declared.command.Command.TheVariants.{Choose, Ask}
 
 -- a word writes the number n, below 2 ^ 32, in digits
 abbrev pub Writes : List ℕ → ℕ → Type 0

@@ -1,10 +1,9 @@
 //! The selector that a script has chosen.
 ghost use Rattle.std.specs.Prelude.{◌≡◌, ℕ};
 ghost use Rattle.rank.specs.Choice.{chosen_range, chosen_weight, kind_range};
-ghost use Rattle.rank.specs.Played.{Answered, after};
+ghost use Rattle.selectors.specs.Played.{Answered, after};
 
-use crate::call::{Answer, Call, Kind};
-use crate::play::play;
+use selectors::calls::{Call, CallRefusal, Kind, Reply, play};
 use selectors::{Gate, Histogram, Ladder};
 
 /// A selector of one of the three kinds.
@@ -29,27 +28,15 @@ impl Chosen {
     }
 
     /// Makes the call on it.
-    pub fn play(&mut self, call: Call) -> Answer
+    pub fn play(&mut self, call: Call) -> Result<Reply, CallRefusal>
         ensures answer { Answered (chosen_weight self.old) (chosen_range self.old) call result }
         ensures weights { (c : ℕ) → chosen_weight self.new c ≡ after (chosen_weight self.old) (chosen_range self.old) call c }
         ensures range_kept { chosen_range self.new ≡ chosen_range self.old }
     {
-        match *self {
-            Chosen::OfGate(mut gate) => {
-                let answer = play(&mut gate, call);
-                *self = Chosen::OfGate(gate);
-                answer
-            }
-            Chosen::OfHistogram(mut histogram) => {
-                let answer = play(&mut histogram, call);
-                *self = Chosen::OfHistogram(histogram);
-                answer
-            }
-            Chosen::OfLadder(mut ladder) => {
-                let answer = play(&mut ladder, call);
-                *self = Chosen::OfLadder(ladder);
-                answer
-            }
+        match self {
+            Chosen::OfGate(gate) => play(gate, call),
+            Chosen::OfHistogram(histogram) => play(histogram, call),
+            Chosen::OfLadder(ladder) => play(ladder, call),
         }
     }
 }

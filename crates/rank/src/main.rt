@@ -2,13 +2,15 @@
 
 #![tactic(auto)]
 
-mod call;
+mod answer;
 mod chosen;
-mod play;
+mod command;
 mod read;
 
-use call::{Command, Kind};
+use answer::Answer;
 use chosen::Chosen;
+use command::Command;
+use selectors::calls::{Kind, Reply};
 use std::io;
 
 fn main(rt: HostRuntime) -> io::Result<()> {
@@ -18,19 +20,19 @@ fn main(rt: HostRuntime) -> io::Result<()> {
     for line in rt.lines(rt.alloc()) {
         let line = line?;
         lines = lines.wrapping_add(1);
-        match read::command(line.as_str()) {
-            Some(Command::Choose(kind)) => {
+        let Some(command) = read::command(line.as_str()) else {
+            println!(rt; "unknown {lines}")?;
+            continue;
+        };
+        let answer = match command {
+            Command::Choose(kind) => {
                 chosen = Chosen::new(kind);
-                played = played.wrapping_add(1);
-                println!(rt; "ok")?;
+                Ok(Reply::Done)
             }
-            Some(Command::Ask(call)) => {
-                let answer = chosen.play(call);
-                played = played.wrapping_add(1);
-                println!(rt; "{answer}")?;
-            }
-            None => println!(rt; "unknown {lines}")?,
-        }
+            Command::Ask(call) => chosen.play(call),
+        };
+        played = played.wrapping_add(1);
+        println!(rt; "{}", Answer(answer))?;
     }
     println!(rt; "played {played} of {lines} lines")
 }

@@ -1,0 +1,9 @@
+//! What a line of a script asks for.
+use selectors::calls::{Call, Kind};
+
+/// One line of a script.
+#[derive(Clone, Copy)]
+pub enum Command {
+    Choose(Kind),
+    Ask(Call),
+}
