@@ -9,7 +9,7 @@ use plain::texts::{PlainPgm, Refused};
 use std::alloc::Global;
 use std::io;
 
-/// What is printed of a file.
+/// What is printed of a file. Not one function with `soft_clean`'s: that one makes tones of its own, which here would be a copy.
 pub fn report(heap: Global, file: &[u8]) -> io::Result<String>
     ensures { IfOk result (λ s. Printed file.now (string_bytes s)) }
 {

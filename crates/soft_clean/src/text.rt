@@ -10,7 +10,7 @@ use plain::texts::{PlainPgm, Refused};
 use std::alloc::Global;
 use std::io;
 
-/// What is printed of a file.
+/// What is printed of a file. Not one function with `clean`'s: there the tones are a part of the file, and need no copy.
 pub fn report(heap: Global, file: &[u8]) -> io::Result<String>
     ensures { IfOk result (λ s. Printed file.now (string_bytes s)) }
 {

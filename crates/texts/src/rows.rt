@@ -111,6 +111,7 @@ impl Rows for Grey {
     }
 }
 
+// As for greys, but for the type: one `read` for both would ask of each kind that its rows can be parsed.
 impl Rows for Relief {
     fn parts() -> usize {
         1

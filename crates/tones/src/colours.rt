@@ -29,7 +29,7 @@ impl Colour {
         })
     }
 
-    /// Whether this colour is below another: darker first, then more saturated, then smaller hue.
+    /// Whether this colour is below another: darker first, then more saturated, then smaller hue. A derived order would go by the fields upwards.
     pub fn is_below(self, other: Colour) -> bool
         ensures answer { Decides result (Before self other) }
         ensures order { RankedByParts }

@@ -31,7 +31,7 @@ pub struct Colour {
     ghost within: { (hue < 360) × (saturation < 256) × (brightness < 256) },
 }
 
-/// A colour's parts as they lie in memory, within its limits or not.
+/// A colour's parts as they lie in memory, within its limits or not: a type of its own, since a `Colour` is within them.
 #[derive(Clone, Copy, PartialEq, Eq, Debug, Default)]
 pub struct ColourRow {
     pub hue: u16,
