@@ -13,8 +13,8 @@ invariant_of-self c =
     let e = c.args.self.now in
     record { long = amend_long e _ _ _ c.in-Some.i c.in-Some.ensures; within = e.within; sound = amend_lawful e _ _ _ c.in-Some.i c.in-Some.ensures (sym c.if-not-in_limits.ensures) }
 
-pub returns-in_default : goal.returns-in_default
-returns-in_default c =
+pub returns-in_default-clause-answer : goal.returns-in_default-clause-answer
+returns-in_default-clause-answer c =
     let e = c.args.self.now in
     let fx = c.ranges.dx in
     let fy = c.ranges.dy in
@@ -22,7 +22,7 @@ returns-in_default c =
     let inside = c.if-not-in_limits.ensures in
     let at : None ≡ position (stands_at c.args.dx c.args.dy) (placed e) = simp to_z-of_z at c.in_default.ensures in
     let free : taken c.args.dx c.args.dy (placed e) ≡ false = any_position (stands_at c.args.dx c.args.dy) (placed e) ∙ ap is_some (sym at) in
-    record { answer = grind (arith, to_z-of_z); places = refl; order = refl; kept = refl }
+    grind (arith, to_z-of_z)
 
 pub returns : goal.returns
 returns c =
