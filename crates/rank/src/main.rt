@@ -15,6 +15,7 @@ use std::io;
 
 fn main(rt: HostRuntime) -> io::Result<()> {
     let mut chosen = Chosen::new(Kind::Gate);
+    // Counted by hand: both figures are printed after the loop, where an `enumerate` tells neither.
     let mut lines = 0u64;
     let mut played = 0u64;
     for line in rt.lines(rt.alloc()) {
