@@ -3,7 +3,7 @@ use Rattle.std.proofs.Common.{◌≡◌, ℕ, zero, suc, ◌+◌, ◌-◌, ◌*�
 use Rattle.std.proofs.lemmas.List.{length-append}
 use Rattle.std.proofs.lemmas.Bool.{cond-true, lt-ltb}
 use Rattle.planes.specs.declared.size.Size.{Size}
-use Rattle.planes.specs.Sizes.{area, cell}
+use Rattle.planes.specs.Sizes.{area, start, cell}
 use Rattle.recipes.specs.declared.recipe.Stage.{Stage}
 use Rattle.stages.specs.Planes.{picture, line, overwritten}
 use Rattle.stages.specs.Rows.{row_made, row_weights}
@@ -13,6 +13,10 @@ use Rattle.stages.proofs.Pictures.{bag_same, cleaned_same}
 use Rattle.tones.specs.Kind.{Kind}
 use Rattle.filters.specs.Restaging.{lines, staged, rows_made}
 use Rattle.filters.proofs.Overwriting.{overwritten_on}
+
+-- a plane ends where the next begins
+pub plane_end : (size : Size) (j : ℕ) → start size (j + 1) ≡ start size j + area size
+plane_end size j = omega (arith, ap (λ k. k * area size) (add-one j), suc-mul j (area size))
 
 module _ {T R : Type 0} (K : Kind T R) where
   -- pictures that agree on a row's stretch have the same rows there

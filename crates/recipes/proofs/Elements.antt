@@ -16,6 +16,9 @@ use Rattle.recipes.proofs.Room.{limits}
 use Rattle.recipes.proofs.Keeps.{sound}
 use Rattle.recipes.proofs.Arrays.{length_placed}
 
+pub placed_few : (e : Element) → length (placed e) ≤ 49
+placed_few e = omega (arith, length_placed e, e.within)
+
 all_limits : (ps : List Place) → list_all limited ps ≡ true → AllByRecursion Limits ps
 all_limits [] e = tt
 all_limits (p ∷ ps) e = let a = and_parts (limited p) (list_all limited ps) e in (limits p a.0, all_limits ps a.1)

@@ -11,6 +11,9 @@ use Rattle.recipes.specs.Recipes.{staged, stages_by, stages_of_step, stages_of}
 pub length_staged : (r : Recipe) → length (staged r) ≡ r.count
 length_staged r = length-take-le r.count r.stages (omega (arith, r.long, r.few))
 
+pub staged_few : (r : Recipe) → length (staged r) ≤ 8
+staged_few r = omega (arith, length_staged r, r.few)
+
 -- a step has at most two stages
 step_few : (l : Letter) (e : Element) → length (stages_by l e) ≤ 2
 step_few Erosion e = omega arith
