@@ -4,7 +4,7 @@ use Rattle.std.proofs.lemmas.Bool.{cases_lt}
 use Rattle.std.proofs.lemmas.List.{length-drop, take_at, drop_at, drop-drop}
 use borrow.Rule.Slice.PartMut.{put_mid}
 use Rattle.planes.specs.declared.size.Size.{Size}
-use Rattle.planes.specs.Sizes.{area, cell}
+use Rattle.planes.specs.Sizes.{cell}
 use Rattle.stages.specs.Planes.{overwritten}
 use Rattle.tones.specs.Kind.{Kind}
 use Rattle.calls.specs.Outcomes.{laid}
@@ -23,11 +23,6 @@ laid_more K size x y w tones m n at before after row p q r e =
 -- row i of n rows ends within them
 pub row_within : (i w n : ℕ) → i < n → i * w + w ≤ w * n
 row_within i w n h = let e = mul-le-mul_right w h in omega (arith, e, suc-mul i w, mul_comm n w)
-
--- a piece of a row on the card ends within the plane
-pub piece_within : (size : Size) (x y n : ℕ) → x + n ≤ size.width → y < size.height → cell size x y + n ≤ area size
-piece_within size x y n p q =
-    let e = mul-le-mul_right size.width q in omega (arith, e, suc-mul y size.width, mul_comm size.height size.width)
 
 -- the next row of a patch, and the tones left after it
 pub record NextRow {R : Type 0} (tones row later : List R) (n w : ℕ) : Type 0 where
