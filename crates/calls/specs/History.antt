@@ -1,5 +1,5 @@
 -- What a card has to show, from its size, its opening tones and the accepted calls alone. Assumes nothing.
-use Rattle.std.specs.Prelude.{ℕ, zero, suc, ◌+◌, ◌-◌, ◌*◌, Bool, true, false, cond, ◌&&◌, List, [], ◌∷◌, nat_le, nat_lt, slice_index_or}
+use Rattle.std.specs.Prelude.{ℕ, zero, suc, ◌+◌, ◌-◌, ◌*◌, Bool, true, false, if◌then◌else◌, ◌&&◌, List, [], ◌∷◌, nat_le, nat_lt, slice_index_or}
 use Rattle.planes.specs.declared.size.Size.{Size}
 use Rattle.planes.specs.Sizes.{start}
 use Rattle.recipes.specs.declared.draft.Draft.{Draft}
@@ -35,9 +35,9 @@ accepted (Met c) = false
 
 -- the history after a call and its answer
 abbrev pub noted : {R : Type 0} → Call R → Answer R → History R → History R
-noted (Patch x y width height tones) a h = cond (accepted a) (Patched (rectangle x y width height) tones ∷ h) h
-noted (Install d) a h = cond (accepted a) (Installed d ∷ h) h
-noted (Work budget) a h = cond (accepted a) (Worked budget ∷ h) h
+noted (Patch x y width height tones) a h = if accepted a then Patched (rectangle x y width height) tones ∷ h else h
+noted (Install d) a h = if accepted a then Installed d ∷ h else h
+noted (Work budget) a h = if accepted a then Worked budget ∷ h else h
 noted (Row x y n) a h = h
 noted Left a h = h
 noted Due a h = h
@@ -73,9 +73,9 @@ module _ {T R : Type 0} (K : Kind T R) where
   -- a patch laid over a picture, row by row
   abbrev pub painted : Rect → List R → Picture T → Picture T
   painted r tones f x y =
-      cond (holds r x y)
-      (K.counted (slice_index_or tones ((y - r.top) * (r.right - r.left) + (x - r.left)) (blank K)))
-      (f x y)
+      if holds r x y
+      then K.counted (slice_index_or tones ((y - r.top) * (r.right - r.left) + (x - r.left)) (blank K))
+      else f x y
 
   -- the raw card: the opening tones with all accepted patches, in the order of the calls
   unfoldable pub raw : Picture T → History R → Picture T

@@ -1,5 +1,5 @@
 -- What opening a card answers and leaves. Assumes nothing.
-use Rattle.std.specs.Prelude.{ℕ, Bool, cond, ◌&&◌, [], Some, None, Option, ◌==◌, nat_le}
+use Rattle.std.specs.Prelude.{ℕ, Bool, if◌then◌else◌, ◌&&◌, [], Some, None, Option, ◌==◌, nat_le}
 use Rattle.calls.specs.Calls.{Notes, room}
 
 -- a number is from 1 to a greatest one
@@ -17,6 +17,6 @@ fresh width height stages = record { size = record { width = width; height = hei
 -- an open is refused where the size or the number of stages is outside its limits (13), then where the memory has another length (14), then where the selector's range is smaller than the number of tones (15)
 abbrev pub open_refusal : ℕ → ℕ → ℕ → ℕ → ℕ → ℕ → Option ℕ
 open_refusal tones range long width height stages =
-    cond (limits width height stages)
-    (cond (long == room (fresh width height stages)) (cond (nat_le tones range) None (Some 15)) (Some 14))
-    (Some 13)
+    if limits width height stages
+    then (if long == room (fresh width height stages) then (if nat_le tones range then None else Some 15) else Some 14)
+    else Some 13

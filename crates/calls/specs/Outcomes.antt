@@ -1,5 +1,5 @@
 -- What each call answers and leaves. Assumes nothing.
-use Rattle.std.specs.Prelude.{◌≡◌, ℕ, zero, suc, ◌+◌, ◌*◌, min, Bool, true, false, cond, not, List, [], ◌∷◌, map, length, take, drop, Some, None, Option, ◌==◌, nat_lt}
+use Rattle.std.specs.Prelude.{◌≡◌, ℕ, zero, suc, ◌+◌, ◌*◌, min, Bool, true, false, if◌then◌else◌, not, List, [], ◌∷◌, map, length, take, drop, Some, None, Option, ◌==◌, nat_lt}
 use Rattle.planes.specs.declared.size.Size.{Size}
 use Rattle.planes.specs.Sizes.{cell, start}
 use Rattle.recipes.specs.declared.draft.Draft.{Draft}
@@ -23,14 +23,14 @@ drafted d = stages_of (steps_of d)
 -- a patch is refused where its rectangle is empty or not wholly on the card (17), then where the count of its tones is wrong (18)
 abbrev pub patch_refusal : Option Rect → ℕ → ℕ → Option ℕ
 patch_refusal None pixels count = Some 17
-patch_refusal (Some r) pixels count = cond (count == pixels) None (Some 18)
+patch_refusal (Some r) pixels count = if count == pixels then None else Some 18
 
 -- an install is refused where the draft has fewer steps than declared (19), then where it makes more stages than the card has planes for (20), then where an amount is outside the span (21)
 abbrev pub install_refusal : ℕ → ℕ → Draft → Option ℕ
 install_refusal span most d =
-    cond (nat_lt (length (steps_of d)) d.declared) (Some 19)
-    (cond (nat_lt most (length (drafted d))) (Some 20)
-    (cond (amounts_within span (drafted d)) None (Some 21)))
+    if nat_lt (length (steps_of d)) d.declared then Some 19
+    else (if nat_lt most (length (drafted d)) then Some 20
+    else (if amounts_within span (drafted d) then None else Some 21))
 
 -- done, or refused
 abbrev pub done_unless : {R : Type 0} → Option ℕ → Answer R
@@ -165,7 +165,7 @@ takes_memory Due = false
 
 -- memory of another length is refused (14)
 abbrev pub misfit : {R : Type 0} → Open R → Call R → Bool
-misfit o c = cond (takes_memory c) (not (length o.memory == room o.notes)) false
+misfit o c = if takes_memory c then not (length o.memory == room o.notes) else false
 
 module _ {T R : Type 0} (K : Kind T R) (w : ℕ → ℕ) (m : List R) where
   abbrev pub open_with : Notes → Open R
@@ -173,11 +173,11 @@ module _ {T R : Type 0} (K : Kind T R) (w : ℕ → ℕ) (m : List R) where
 
   abbrev pub answer_by : Option Notes → Call R → Answer R
   answer_by None c = unopened c
-  answer_by (Some n) c = cond (misfit (open_with n) c) (Refused 14) (answer_open K (open_with n) c)
+  answer_by (Some n) c = if misfit (open_with n) c then Refused 14 else answer_open K (open_with n) c
 
   abbrev pub after_by : Option Notes → Call R → State R
   after_by None c = record { notes = None; weights = w; memory = m }
-  after_by (Some n) c = cond (misfit (open_with n) c) (open_state (open_with n)) (open_state (after_open K (open_with n) c))
+  after_by (Some n) c = if misfit (open_with n) c then open_state (open_with n) else open_state (after_open K (open_with n) c)
 
 -- a call on a card in a state answers that, and leaves that state
 pub record Outcome {T R : Type 0} (K : Kind T R) (from : State R) (c : Call R) (a : Answer R) (to : State R) : Type 0 where

@@ -1,5 +1,5 @@
 -- What a residue answers and leaves: raw minus finished of a grey card. Assumes nothing.
-use Rattle.std.specs.Prelude.{ℕ, zero, suc, ◌+◌, cond, List, [], ◌∷◌, ◌++◌, length, ℤ, ◌-ℤ◌, Some, None, Option, ◌==◌, slice_index}
+use Rattle.std.specs.Prelude.{ℕ, zero, suc, ◌+◌, if◌then◌else◌, List, [], ◌∷◌, ◌++◌, length, ℤ, ◌-ℤ◌, Some, None, Option, ◌==◌, slice_index}
 use Rattle.planes.specs.Sizes.{area, start}
 use Rattle.areas.specs.Areas.{stale_rows}
 use Rattle.tones.specs.Greys.{greys, grey_value}
@@ -19,9 +19,9 @@ differences m from (suc n) = differences m from n ++ difference (slice_index m n
 abbrev pub residue_answer : Option Notes → List ℕ → ℕ → Answer ℕ
 residue_answer None m count = Refused 16
 residue_answer (Some n) m count =
-    cond (length m == room n)
-    (cond (count == area n.size) (cond (stale_rows n.areas == 0) Done (Met 0)) (Refused 18))
-    (Refused 14)
+    if length m == room n
+    then (if count == area n.size then (if stale_rows n.areas == 0 then Done else Met 0) else Refused 18)
+    else Refused 14
 
 -- each relief is the raw tone minus the finished one
 abbrev pub residue_of : Notes → List ℕ → List ℤ
@@ -31,6 +31,6 @@ residue_of n m = differences m (start n.size (length n.recipe)) (area n.size)
 abbrev pub residue_after : Option Notes → List ℕ → List ℤ → List ℤ
 residue_after None m before = before
 residue_after (Some n) m before =
-    cond (length m == room n)
-    (cond (length before == area n.size) (cond (stale_rows n.areas == 0) (residue_of n m) before) before)
-    before
+    if length m == room n
+    then (if length before == area n.size then (if stale_rows n.areas == 0 then residue_of n m else before) else before)
+    else before

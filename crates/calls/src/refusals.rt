@@ -33,6 +33,7 @@ impl Refusal {
     pub fn number(&self) -> u32
         ensures { result ≡ refusal_number self.now }
     {
+        // A match, and not the discriminants: `Stale` carries a column.
         match self {
             Refusal::Size => 13,
             Refusal::Memory => 14,
