@@ -44,7 +44,7 @@ impl Areas {
         ensures areas { listed self.new ≡ spread self.old.frame.size stages.now rect (listed self.old) }
         ensures meaning { Spreads self.old.frame.size stages.now (Holds rect) (listed self.old) (listed self.new) }
     {
-        // By index: after an adapter of `iter_mut`, as `iter_mut().zip(stages)`, a proof knows nothing of the items.
+        // By index: a proof knows nothing of what is written through a `zip` of `iter_mut`.
         let mut below = rect;
         for (i, stage) in stages.iter().enumerate().take(self.count) {
             below = below.widened(self.frame.size, stage).joined(self.areas[i]);

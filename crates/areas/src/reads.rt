@@ -57,10 +57,7 @@ impl Areas {
         ensures answer { result ≡ met (last_area (listed self.now)) x y n }
         ensures meaning { FirstMet (last_area (listed self.now)) x y n result }
     {
-        let Some(Some(area)) = self.listed().last() else {
-            return None;
-        };
-        area.met(x, y, n)
+        (*self.listed().last()?)?.met(x, y, n)
     }
 
     /// The areas, one a stage.

@@ -23,16 +23,13 @@ impl Rect {
         ensures answer { result ≡ rect_on size x y width height }
         ensures fits { IfSome result (Fits size) }
     {
-        if holds(x, width, size.width) && holds(y, height, size.height) {
-            Some(Rect {
-                left: x,
-                top: y,
-                right: x + width,
-                bottom: y + height,
-            })
-        } else {
-            None
-        }
+        let within = holds(x, width, size.width) && holds(y, height, size.height);
+        within.then(|| Rect {
+            left: x,
+            top: y,
+            right: x + width,
+            bottom: y + height,
+        })
     }
 
     /// The whole card.

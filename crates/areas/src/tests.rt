@@ -33,9 +33,7 @@ fn clean(frame: Frame, stages: &[Stage]) -> Areas
 
 /// Writes the pixel in column x and row y.
 fn write(areas: &mut Areas, stages: &[Stage], x: usize, y: usize) -> Result<(), Fail> {
-    let Some(rect) = Rect::on(areas.size(), x, y, 1, 1) else {
-        return Err(Fail::new("off the card"));
-    };
+    let rect = Rect::on(areas.size(), x, y, 1, 1).ok_or_else(|| Fail::new("off the card"))?;
     areas.spread(stages, rect);
     Ok(())
 }

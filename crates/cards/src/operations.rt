@@ -57,7 +57,7 @@ impl<T: Tone, S: Selector> Card<T, S> {
         Ok(sheet.work::<T, S>(&mut self.selector, memory, budget))
     }
 
-    /// Lays a rectangle of tones over the raw card, row by row; the areas spread. Refused without a size (16), with memory of another length (14), where the rectangle is empty or not wholly on the card (17), and with a wrong count of tones (18).
+    /// Lays a rectangle of tones, given by its corner, width and height, over the raw card, row by row; the areas spread. Refused without a size (16), with memory of another length (14), where the rectangle is empty or not wholly on the card (17), and with a wrong count of tones (18).
     pub fn patch(
         &mut self,
         memory: &mut [T::Row],
@@ -108,7 +108,8 @@ impl<T: Tone, S: Selector> Card<T, S> {
     }
 }
 
-/// Refused with memory of another length than the sheet's (14).
+/// Refused with memory of another length than the sheet's (14). The test of the sheet before it stands in each call, by a
+/// line: one that hands out the sheet to be changed would hold the selector too, which `work` needs.
 pub(crate) fn fits<R>(sheet: &Sheet, memory: &[R]) -> Result<(), Refusal>
     ensures { result ≡ (if length memory.now == room (notes_of sheet.now) then Ok tt else Err Memory) }
 {

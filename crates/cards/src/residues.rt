@@ -45,5 +45,5 @@ fn subtract(memory: &[u8], from: usize, reliefs: &mut [i16])
 fn difference(raw: u8, finished: u8) -> i16
     ensures { result ≡ difference raw finished }
 {
-    raw as i16 - finished as i16
+    i16::from(raw) - i16::from(finished)
 }

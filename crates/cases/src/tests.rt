@@ -20,10 +20,6 @@ fn the_widest_card(rt: HostRuntime) {
 #[test]
 fn no_histogram_of_colours(rt: HostRuntime) {
     let mut card: Card<Colour, Histogram> = Card::new(Histogram::new());
-    let memory = [ColourRow {
-        hue: 0,
-        saturation: 0,
-        brightness: 0,
-    }; 2];
+    let memory = [ColourRow::default(); 2];
     assert_eq!(rt; card.open(&memory, 1, 1, 1), Err(Refusal::Range));
 }

@@ -9,7 +9,7 @@ use plain::texts::{PlainPgm, Refused};
 use std::alloc::Global;
 use std::io;
 
-/// What is printed of a file. Not one function with `soft_clean`'s: that one makes tones of its own, which here would be a copy.
+/// What is printed of a file. Not one function with `soft_clean`'s: what they do with a picture, as a parameter, is no plainer.
 pub fn report(heap: Global, file: &[u8]) -> io::Result<String>
     ensures { IfOk result (λ s. Printed file.now (string_bytes s)) }
 {
@@ -17,14 +17,7 @@ pub fn report(heap: Global, file: &[u8]) -> io::Result<String>
         return Ok(String::from_str(heap, "too large\n")?);
     }
     match read(file) {
-        Ok(picture) => {
-            let plain = PlainPgm {
-                width: picture.width,
-                height: picture.height,
-                tones: picture.samples,
-            };
-            Ok(plain.to_string(heap)?)
-        }
+        Ok(picture) => Ok(PlainPgm(picture).to_string(heap)?),
         Err(fault) => Ok(Refused(fault).to_string(heap)?),
     }
 }

@@ -14,6 +14,8 @@ use stages::pass::Pass;
 use stages::window::Window;
 use tones::Tone;
 
+// The selector's two facts stand in each contract, as in `stages::pixels`; so does the room, since the memory is lent anew to each call.
+
 /// Makes plane j + 1 of a memory from plane j, row by row from the top, each row from the left. The selector has the window of the last pixel.
 pub fn stage_plane<T: Tone, S: Selector>(
     selector: &mut S,

@@ -4,7 +4,8 @@ use Rattle.std.specs.Int.{w32}
 use Rattle.selectors.specs.Played.{name_of}
 use Rattle.selectors.specs.declared.calls.Call.{Call as SelectorCall}
 use Rattle.selectors.specs.declared.calls.Call.TheVariants.{Put, Total, Select, Empty}
-use Rattle.lines.specs.Words.{Rest, Natural, Integer, word, tones_name, part_name}
+use Rattle.recipes.specs.Parts.{part_name}
+use Rattle.lines.specs.Words.{Rest, Natural, Integer, word, tones_name}
 use Rattle.std.proofs.Math.Utf8.{encode}
 use Rattle.lines.specs.declared.commands.Choice.{Choice}
 use Rattle.lines.specs.declared.commands.Edit.{Edit}

@@ -3,8 +3,6 @@ use Rattle.std.specs.Prelude.{◌≡◌, ℕ, ◌^◌, ◌<◌, List, [], ℤ, S
 use Rattle.std.specs.Borrow.{Bor}
 use Rattle.std.specs.Int.{Width}
 use Rattle.std.specs.Str.Parse.{IsNumeral, digits_value, without_leading_plus, without_leading_sign, signed_digits_value}
-use Rattle.recipes.specs.declared.places.Part.{Part}
-use Rattle.recipes.specs.declared.places.Part.TheVariants.{Core, Soft}
 use Rattle.lines.specs.declared.commands.Tones.{Tones}
 use Rattle.lines.specs.declared.commands.Tones.TheVariants.{Mark, Grey, Relief, Colour}
 
@@ -35,8 +33,3 @@ tones_name Mark = codes "mark"
 tones_name Grey = codes "grey"
 tones_name Relief = codes "relief"
 tones_name Colour = codes "colour"
-
--- the name of each part
-abbrev pub part_name : Part → List ℕ
-part_name Core = codes "core"
-part_name Soft = codes "soft"

@@ -34,8 +34,8 @@ impl From<Reply> for Answer {
     fn from(reply: Reply) -> Answer {
         match reply {
             Reply::Done => Answer::Done,
-            Reply::Total(total) => Answer::Number(total as u64),
-            Reply::Code(code) => Answer::Counted(code as u64),
+            Reply::Total(total) => Answer::Number(u64::from(total)),
+            Reply::Code(code) => Answer::Counted(u64::from(code)),
         }
     }
 }
@@ -141,17 +141,17 @@ impl fmt::Display for Fault {
             Fault::Element(refusal) => write!(f, "refused {}", refusal.number()),
             Fault::Draft(refusal) => write!(f, "refused {}", refusal.number()),
             Fault::Selector(refusal) => write!(f, "refused {}", refusal.number()),
-            Fault::Card(refusal) => match refusal {
-                Refusal::Stale(column) => write!(f, "refused {} {column}", refusal.number()),
-                _ => write!(f, "refused {}", refusal.number()),
-            },
-            Fault::Load(fault) => match fault.letter() {
-                Some(letter) => {
-                    let spot = fault.spot();
-                    write!(f, "refused load file {} {letter} {spot}", fault.number())
-                }
-                None => write!(f, "refused load card {} {}", fault.number(), fault.spot()),
-            },
+            Fault::Card(Refusal::Stale(column)) => {
+                write!(f, "refused {} {column}", Refusal::Stale(*column).number())
+            }
+            Fault::Card(refusal) => write!(f, "refused {}", refusal.number()),
+            Fault::Load(LoadFault::File(fault)) => {
+                let (number, letter, byte) = (fault.number(), fault.letter(), fault.byte());
+                write!(f, "refused load file {number} {letter} {byte}")
+            }
+            Fault::Load(LoadFault::Card(refusal)) => {
+                write!(f, "refused load card {} 0", refusal.number())
+            }
             Fault::Tone(refusal) => write!(f, "refused {}", refusal.number()),
             Fault::Memory(_) => write!(f, "no memory"),
         }

@@ -66,9 +66,7 @@ impl Desk {
         ensures answer { Stepped self.old.draft self.old.element letter self.new.draft result }
         ensures element { self.new.element ≡ self.old.element }
     {
-        let Some(draft) = &mut self.draft else {
-            return Err(Fault::Unknown);
-        };
+        let draft = self.draft.as_mut().ok_or(Fault::Unknown)?;
         draft.step(letter, &self.element)?;
         Ok(Answer::Done)
     }

@@ -4,7 +4,7 @@ ghost use Rattle.std.specs.Prelude.{IfSome};
 ghost use Rattle.lines.specs.Lines.{Calls, Chooses, Drafts, Edits, Ranks, Says};
 
 use crate::commands::{Call, Choice, Command, Drafting, Edit, Opening, Patch};
-use crate::words::{number, part_named};
+use crate::words::number;
 use selectors::calls::Call as SelectorCall;
 
 /// The choice of a card.
@@ -29,7 +29,7 @@ pub fn read_edit(name: &str, rest: &[&str]) -> Option<Edit>
         ("place", [dx, dy, part, amount]) => Some(Edit::Place(
             number(dx)?,
             number(dy)?,
-            part_named(part)?,
+            part.parse().ok()?,
             number(amount)?,
         )),
         ("amount", [dx, dy, amount]) => {

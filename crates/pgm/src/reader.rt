@@ -62,9 +62,9 @@ impl<'a> Reader<'a> {
         if samples.len() > count {
             return Err(FileFault::Count(self.next + count));
         }
-        match samples.iter().position(|sample| *sample > header.maxval) {
-            Some(i) => Err(FileFault::Sample(self.next + i)),
-            None => Ok(samples),
+        if let Some(i) = samples.iter().position(|sample| *sample > header.maxval) {
+            return Err(FileFault::Sample(self.next + i));
         }
+        Ok(samples)
     }
 }

@@ -110,9 +110,7 @@ fn files(rt: HostRuntime) {
 /// A file whose width is written with 5,000 of those digits before a 1.
 fn long_width(heap: Global, digit: u8) -> Result<Outcome, AllocError> {
     let mut file = b"P5 ".to_vec(heap)?;
-    for _ in 0..5000 {
-        file.push(digit)?;
-    }
+    file.resize(5003, digit)?;
     file.extend_from_slice(b"1 1 255 a")?;
     Ok(reading_of(file.as_slice()))
 }

@@ -3,16 +3,18 @@
 use crate::input::{LONGEST, file_of};
 use crate::texts::{PlainPgm, Refused};
 use pgm::faults::{FileFault, HeaderFault};
+use pgm::picture::Picture;
 use std::io::Read;
 use std::test::Fail;
 
 #[test]
 fn plain_pgm(rt: HostRuntime) -> Result<(), Fail> {
-    let picture = PlainPgm {
+    let picture = PlainPgm(Picture {
         width: 3,
         height: 1,
-        tones: b"\x00\x09\xff",
-    };
+        maxval: 255,
+        samples: b"\x00\x09\xff",
+    });
     let text = picture.to_string(rt.alloc())?;
     assert_eq!(rt; text.as_str(), "P2\n3 1\n255\n0\n9\n255\n");
     Ok(())

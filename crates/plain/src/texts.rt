@@ -4,28 +4,24 @@ ghost use Rattle.plain.specs.Texts.{plain, refused};
 ghost use Rattle.std.specs.Prelude.{Some};
 
 use pgm::faults::FileFault;
+use pgm::picture::Picture;
 use std::fmt;
 
 /// A picture, which is printed as plain PGM: its size, and then a tone a line.
 #[derive(Clone, Copy)]
-pub struct PlainPgm<'a> {
-    pub width: usize,
-    pub height: usize,
-    pub tones: &'a [u8],
-}
+pub struct PlainPgm<'a>(pub Picture<'a>);
 
 /// A refusal, which is printed as its number and the byte at fault.
 #[derive(Clone, Copy)]
 pub struct Refused(pub FileFault);
 
 impl fmt::Display for PlainPgm<'_> {
-    ghost output = { λ picture. Some (plain picture.width picture.height picture.tones.now) };
+    ghost output = { λ p. Some (plain (p.0).width (p.0).height (p.0).samples.now) };
 
     fn fmt<W: fmt::Write>(&self, f: &mut fmt::Formatter<W>) -> fmt::Result {
-        let width = self.width;
-        let height = self.height;
+        let Picture { width, height, samples, .. } = self.0;
         write!(f, "P2\n{width} {height}\n255\n")?;
-        for tone in self.tones {
+        for tone in samples {
             writeln!(f, "{tone}")?;
         }
         Ok(())

@@ -25,6 +25,7 @@ impl Frame {
     pub fn checked(size: Size) -> Option<Frame>
         ensures { MatchOption result (Limits size → ⊥) (λ f. f.size ≡ size) }
     {
+        // Not by `then`: a closure knows nothing of the test, and a frame is proved where it is made.
         if (1..=1024).contains(&size.width) && (1..=256).contains(&size.height) {
             Some(Frame { size })
         } else {

@@ -1,9 +1,10 @@
-pub mod Places
-pub mod Lawful
-pub mod Refusals
-pub mod Placed
-pub mod Edits
-pub mod Shapes
-pub mod Reaches
 pub mod Drafts
+pub mod Edits
+pub mod Lawful
+pub mod Parts
+pub mod Placed
+pub mod Places
+pub mod Reaches
 pub mod Recipes
+pub mod Refusals
+pub mod Shapes

@@ -62,9 +62,7 @@ impl Element {
         if !in_limits(dx, dy, amount) {
             return Err(ElementRefusal::Outside);
         }
-        let Some(i) = self.position(dx, dy) else {
-            return Err(ElementRefusal::Missing);
-        };
+        let i = self.position(dx, dy).ok_or(ElementRefusal::Missing)?;
         self.places[i].amount = amount;
         Ok(())
     }
@@ -83,7 +81,7 @@ impl Element {
         Ok(())
     }
 
-    /// Stores a place after the last one.
+    /// Stores a place after the last one. A draft and a recipe have a `push` of their own: a generic struct holds no array of a type parameter.
     fn push(&mut self, place: Place)
         requires limits { limited place ≡ true }
         requires free { taken place.dx place.dy (placed self.old) ≡ false }

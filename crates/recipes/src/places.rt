@@ -3,11 +3,36 @@
 ghost use Rattle.recipes.specs.Places.{stands_at, soft};
 ghost use Rattle.std.specs.Prelude.{◌≡◌};
 
+use std::str::FromStr;
+
 /// The part of an element that a place belongs to: its core or its soft boundary.
 #[derive(Clone, Copy, PartialEq, Eq, Debug)]
 pub enum Part {
     Core,
     Soft,
+}
+
+/// No part has the name.
+#[derive(Clone, Copy, PartialEq, Eq, Debug)]
+pub struct UnknownPart;
+
+/// Reads a part's name.
+impl FromStr for Part {
+    ghost use Rattle.std.specs.Prelude.{◌≡◌, ◌≢◌, MatchResult};
+    ghost use Rattle.recipes.specs.Parts.{part_name};
+    ghost use Rattle.recipes.specs.declared.places.Part.{Part as Named};
+
+    type Err = UnknownPart;
+
+    ghost from_str_gives = { λ w r. MatchResult r (λ k. w ≡ part_name k) (λ _. (k : Named) → w ≢ part_name k) };
+
+    fn from_str(name: &str) -> Result<Part, UnknownPart> {
+        match name {
+            "core" => Ok(Part::Core),
+            "soft" => Ok(Part::Soft),
+            _ => Err(UnknownPart),
+        }
+    }
 }
 
 /// A place: its offsets from the origin, its part and its amount.

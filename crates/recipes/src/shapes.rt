@@ -74,8 +74,8 @@ impl Element {
 fn cell(n: u8) -> Place
     ensures { result ≡ standard_place (pos (n % 7) -ℤ pos 3) (pos (n / 7) -ℤ pos 3) }
 {
-    let dx = (n % 7) as i32 - 3;
-    let dy = (n / 7) as i32 - 3;
+    let dx = i32::from(n % 7) - 3;
+    let dy = i32::from(n / 7) - 3;
     let part = if dx == 0 && dy == 0 {
         Part::Core
     } else {

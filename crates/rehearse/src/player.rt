@@ -10,6 +10,8 @@ ghost use Rattle.selectors.specs.Played.{after};
 use cards::card::Card;
 use lines::answers::{Answer, Fault};
 use lines::commands::{Opening, Patch};
+use planes::frame::Frame;
+use planes::size::Size;
 use recipes::draft::Draft;
 use selectors::Selector;
 use selectors::calls::{Call, play};
@@ -45,10 +47,11 @@ pub fn room(opening: Opening) -> Option<(usize, usize)>
         height,
         stages,
     } = opening;
-    let within = (1..=1024).contains(&width)
-        && (1..=256).contains(&height)
-        && (1..=8).contains(&stages);
-    within.then(|| ((stages + 1) * (width * height), width * height))
+    let frame = Frame::checked(Size { width, height })?;
+    if !(1..=8).contains(&stages) {
+        return None;
+    }
+    Some((frame.start(stages + 1), frame.area()))
 }
 
 impl<T: Rows, S: Selector> Player<T, S> {

@@ -5,7 +5,7 @@ ghost use Rattle.selectors.specs.Entries.{bag, under, weigh};
 ghost use Rattle.std.proofs.Common.{rules};
 
 use crate::entries::{Entries, Entry};
-use crate::limits::WIDE_RANGE;
+use crate::limits::{WIDE_RANGE, ranked};
 use crate::refusals::{PutRefusal, SelectRefusal};
 use crate::selector::Selector;
 
@@ -59,9 +59,7 @@ impl Selector for Gate {
     }
 
     fn select(&self, rank: u32) -> Result<u32, SelectRefusal> {
-        if rank == 0 || rank > self.entries.total() {
-            return Err(SelectRefusal::Unranked);
-        }
+        ranked(rank, self.entries.total())?;
         Ok(narrow(self.entries.as_slice(), rank))
     }
 }

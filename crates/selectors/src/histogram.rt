@@ -3,7 +3,7 @@ ghost use Rattle.std.specs.Prelude.{◌≡◌, ℕ, length, slice_index};
 ghost use Rattle.selectors.specs.Tally.{Tally};
 ghost use Rattle.std.proofs.Common.{rules};
 
-use crate::limits::{MOST_CODES, heavier};
+use crate::limits::{MOST_CODES, heavier, ranked};
 use crate::refusals::{PutRefusal, SelectRefusal};
 use crate::selector::Selector;
 
@@ -72,9 +72,7 @@ impl Selector for Histogram {
     }
 
     fn select(&self, rank: u32) -> Result<u32, SelectRefusal> {
-        if rank == 0 || rank > self.sum {
-            return Err(SelectRefusal::Unranked);
-        }
+        ranked(rank, self.sum)?;
         let mut code = 0;
         let mut running = 0;
         // The histogram's select is to be a loop that yields the code by `break`.

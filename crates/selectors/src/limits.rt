@@ -1,8 +1,8 @@
 //! The limits of every selector, and the range of the gate and the ladder.
-ghost use Rattle.std.specs.Prelude.{◌≡◌, ◌+◌, ◌<◌, ◌≤◌, MatchResult};
+ghost use Rattle.std.specs.Prelude.{◌≡◌, ◌+◌, ◌<◌, ◌≤◌, ◌⊎◌, MatchResult};
 ghost use Rattle.selectors.specs.declared.refusals.PutRefusal.TheVariants.{Heavy};
 
-use crate::refusals::PutRefusal;
+use crate::refusals::{PutRefusal, SelectRefusal};
 
 /// At most so many codes have weight.
 pub const MOST_CODES: usize = 64;
@@ -22,4 +22,14 @@ pub fn heavier(sum: u32, amount: u32) -> Result<u32, PutRefusal>
         return Err(PutRefusal::Heavy);
     }
     Ok(sum + amount)
+}
+
+/// That a selector of this total has the rank.
+pub fn ranked(rank: u32, total: u32) -> Result<(), SelectRefusal>
+    ensures { MatchResult result (λ _. (0 < rank) × (rank ≤ total)) (λ _. (rank ≡ 0) ⊎ (total < rank)) }
+{
+    if rank == 0 || rank > total {
+        return Err(SelectRefusal::Unranked);
+    }
+    Ok(())
 }

@@ -5,7 +5,7 @@ ghost use Rattle.selectors.specs.Median.{Median, Taken, median_number, put_count
 ghost use Rattle.selectors.specs.Theorems.{AnswerHasWeight, OneAnswer};
 
 use crate::entries::Entry;
-use crate::refusals::PutRefusal;
+use crate::refusals::{PutRefusal, SelectRefusal};
 use crate::selector::Selector;
 
 /// Why there is no median.
@@ -24,7 +24,7 @@ impl MedianRefusal {
     {
         match self {
             MedianRefusal::Refused(_, refusal) => refusal.number(),
-            MedianRefusal::NoEntries => 5,
+            MedianRefusal::NoEntries => SelectRefusal::Unranked.number(),
         }
     }
 }

@@ -19,6 +19,7 @@ use stages::pass::Pass;
 use stages::window::Window;
 use tones::Tone;
 
+// The selector's two facts stand in each contract, as in `stages::pixels`; so does the room, since the memory is lent anew to each call.
 impl Sheet {
     /// Redoes the top row of the lowest stage with an area, if there is one; the row leaves the area.
     fn redo<T: Tone, S: Selector>(&mut self, selector: &mut S, memory: &mut [T::Row])

@@ -5,12 +5,13 @@ ghost use Rattle.std.specs.Prelude.{◌≡◌, IfOk, string_bytes};
 
 use crate::cleaning::cleaned;
 use pgm::file::read;
+use pgm::picture::Picture;
 use plain::input::LONGEST;
 use plain::texts::{PlainPgm, Refused};
 use std::alloc::Global;
 use std::io;
 
-/// What is printed of a file. Not one function with `clean`'s: there the tones are a part of the file, and need no copy.
+/// What is printed of a file. Not one function with `clean`'s: what they do with a picture, as a parameter, is no plainer.
 pub fn report(heap: Global, file: &[u8]) -> io::Result<String>
     ensures { IfOk result (λ s. Printed file.now (string_bytes s)) }
 {
@@ -20,12 +21,11 @@ pub fn report(heap: Global, file: &[u8]) -> io::Result<String>
     match read(file) {
         Ok(picture) => {
             let tones = cleaned(heap, file, picture)?;
-            let plain = PlainPgm {
-                width: picture.width,
-                height: picture.height,
-                tones: tones.as_slice(),
+            let eroded = Picture {
+                samples: tones.as_slice(),
+                ..picture
             };
-            Ok(plain.to_string(heap)?)
+            Ok(PlainPgm(eroded).to_string(heap)?)
         }
         Err(fault) => Ok(Refused(fault).to_string(heap)?),
     }

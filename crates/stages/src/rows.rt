@@ -11,6 +11,7 @@ use crate::site::Site;
 use selectors::Selector;
 use tones::Tone;
 
+// The selector's two facts stand in each contract, as in pixels.rt; so does the room, since the memory is lent anew to each call.
 impl<'a> Pass<'a> {
     /// Writes what the stage makes of a pixel.
     pub fn stage_pixel<T: Tone, S: Selector>(

@@ -35,7 +35,7 @@ impl Window {
     pub(crate) fn taps(&self) -> &[Tap]
         ensures taps { result.now ≡ map (tap_of self.now.stage) (placed self.now.stage.element) }
     {
-        &self.taps[0..self.count]
+        &self.taps[..self.count]
     }
 
     /// The rank that the stage takes of a window of a total weight: an erosion takes the rank k, a dilation the rank total - k + 1.
@@ -62,7 +62,7 @@ fn taps_of(stage: &Stage) -> [Tap; 49]
         weight: 1,
         amount: 0,
     }; 49];
-    // By index: after an adapter of `iter_mut`, as `taps.iter_mut().zip(..)`, a proof knows nothing of the items.
+    // By index: a proof knows nothing of what is written through a `zip` of `iter_mut`.
     for (i, place) in stage.element.places().iter().enumerate() {
         taps[i] = Tap::of(stage, place);
     }

@@ -9,13 +9,17 @@ use lines::words::number;
 use selectors::Selector;
 use std::alloc::AllocError;
 use std::fmt::Write;
+use std::str::FromStr;
 use tones::{Colour, ColourRow, Grey, Mark, Relief, Tone, ToneRefusal};
 
 /// A kind of tones whose rows can be written in a script. The row by default has the numbers 0.
 pub trait Rows: Tone<Row: Default> {
     /// How many numbers a row has. No constant, since a law cannot say that a trait's constant is above 0.
     fn parts() -> usize
-        ensures { 0 < result };
+        ensures { 0 < result }
+    {
+        1
+    }
 
     /// The row that the words write; none where they are too many, too few or no numbers of its parts.
     fn read(words: &[&str]) -> Option<Self::Row>;
@@ -51,10 +55,6 @@ pub trait Rows: Tone<Row: Default> {
 }
 
 impl Rows for Mark {
-    fn parts() -> usize {
-        1
-    }
-
     fn read(words: &[&str]) -> Option<bool> {
         match words {
             ["0"] => Some(false),
@@ -72,16 +72,20 @@ impl Rows for Mark {
     }
 }
 
-impl Rows for Grey {
-    fn parts() -> usize {
-        1
+/// The number that the only word writes.
+fn only<N: FromStr>(words: &[&str]) -> Option<N>
+where
+    N::Err: Drop,
+{
+    match words {
+        [word] => number(word),
+        _ => None,
     }
+}
 
+impl Rows for Grey {
     fn read(words: &[&str]) -> Option<u8> {
-        match words {
-            [level] => number(level),
-            _ => None,
-        }
+        only(words)
     }
 
     fn show(row: u8, text: &mut String) -> Result<(), AllocError> {
@@ -111,17 +115,9 @@ impl Rows for Grey {
     }
 }
 
-// As for greys, but for the type: one `read` for both would ask of each kind that its rows can be parsed.
 impl Rows for Relief {
-    fn parts() -> usize {
-        1
-    }
-
     fn read(words: &[&str]) -> Option<i16> {
-        match words {
-            [height] => number(height),
-            _ => None,
-        }
+        only(words)
     }
 
     fn show(row: i16, text: &mut String) -> Result<(), AllocError> {

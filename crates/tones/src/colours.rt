@@ -66,7 +66,8 @@ impl Tone for Colour {
     }
 
     fn code(self) -> u32 {
-        (self.brightness as u32 * 256 + 255 - self.saturation as u32) * 360 + self.hue as u32
+        (u32::from(self.brightness) * 256 + 255 - u32::from(self.saturation)) * 360
+            + u32::from(self.hue)
     }
 
     fn of_code(code: u32) -> Colour

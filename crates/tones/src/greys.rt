@@ -33,7 +33,7 @@ impl Tone for Grey {
     }
 
     fn code(self) -> u32 {
-        self.level as u32
+        u32::from(self.level)
     }
 
     fn of_code(code: u32) -> Grey
@@ -47,7 +47,8 @@ impl Tone for Grey {
     fn lowered(self, amount: i32) -> Grey
         ensures { greys.row result ≡ greys.row (greys.lowered self amount) }
     {
-        let held = (self.level as i64 - amount as i64).clamp(0, 255) as u8;
+        // Made before the test, which costs no branch where the amount is 0.
+        let held = (i64::from(self.level) - i64::from(amount)).clamp(0, 255) as u8;
         if amount.unsigned_abs() > 255 {
             return self;
         }

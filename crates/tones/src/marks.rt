@@ -7,7 +7,7 @@ use crate::interface::Tone;
 use crate::kinds::Mark;
 
 impl Mark {
-    /// The mark of its row.
+    /// The mark of its row. Not a `From`: each kind is made by its `new`.
     pub fn new(yes: bool) -> Mark
         ensures { result ≡ mark yes }
     {

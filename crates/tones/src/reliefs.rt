@@ -37,7 +37,7 @@ impl Tone for Relief {
     }
 
     fn code(self) -> u32 {
-        (self.height as i32 + 255) as u32
+        (i32::from(self.height) + 255) as u32
     }
 
     fn of_code(code: u32) -> Relief
