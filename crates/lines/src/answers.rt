@@ -141,16 +141,16 @@ impl fmt::Display for Fault {
             Fault::Element(refusal) => write!(f, "refused {}", refusal.number()),
             Fault::Draft(refusal) => write!(f, "refused {}", refusal.number()),
             Fault::Selector(refusal) => write!(f, "refused {}", refusal.number()),
-            Fault::Card(Refusal::Stale(column)) => {
-                write!(f, "refused {} {column}", Refusal::Stale(*column).number())
+            Fault::Card(refusal @ Refusal::Stale(column)) => {
+                write!(f, "refused {} {column}", refusal.number())
             }
             Fault::Card(refusal) => write!(f, "refused {}", refusal.number()),
             Fault::Load(LoadFault::File(fault)) => {
                 let (number, letter, byte) = (fault.number(), fault.letter(), fault.byte());
                 write!(f, "refused load file {number} {letter} {byte}")
             }
-            Fault::Load(LoadFault::Card(refusal)) => {
-                write!(f, "refused load card {} 0", refusal.number())
+            Fault::Load(fault @ LoadFault::Card(_)) => {
+                write!(f, "refused load card {} {}", fault.number(), fault.spot())
             }
             Fault::Tone(refusal) => write!(f, "refused {}", refusal.number()),
             Fault::Memory(_) => write!(f, "no memory"),

@@ -19,7 +19,12 @@ impl fmt::Display for PlainPgm<'_> {
     ghost output = { λ p. Some (plain (p.0).width (p.0).height (p.0).samples.now) };
 
     fn fmt<W: fmt::Write>(&self, f: &mut fmt::Formatter<W>) -> fmt::Result {
-        let Picture { width, height, samples, .. } = self.0;
+        let Picture {
+            width,
+            height,
+            samples,
+            ..
+        } = self.0;
         write!(f, "P2\n{width} {height}\n255\n")?;
         for tone in samples {
             writeln!(f, "{tone}")?;

@@ -1,4 +1,7 @@
 //! How an answer is printed.
+ghost use Rattle.rank.specs.Shown.{answer_line};
+ghost use Rattle.std.specs.Prelude.{Some};
+
 use selectors::calls::{CallRefusal, Reply};
 use std::fmt;
 
@@ -7,6 +10,8 @@ use std::fmt;
 pub struct Answer(pub Result<Reply, CallRefusal>);
 
 impl fmt::Display for Answer {
+    ghost output = { λ a. Some (answer_line a.0) };
+
     fn fmt<W: fmt::Write>(&self, f: &mut fmt::Formatter<W>) -> fmt::Result {
         match self.0 {
             Ok(Reply::Done) => write!(f, "ok"),

@@ -52,6 +52,7 @@ fn sessions(rt: &HostRuntime, evening: &mut Evening) -> io::Result<usize> {
         tones: Tones::Grey,
         selector: Kind::Histogram,
     };
+    // As many cards as there are: each loop is proved to end.
     for _ in 0..u64::MAX {
         match with_card(rt, choice, evening)? {
             ControlFlow::Break(left) => return Ok(left),

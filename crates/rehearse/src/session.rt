@@ -79,14 +79,16 @@ fn play<T: Rows, S: Selector>(
     if name.starts_with('#') {
         return Line::Empty;
     }
-    Line::Told(match read_command(name, rest) {
-        None => Err(Fault::Unknown),
-        Some(Command::Choose(choice)) => return Line::Next(choice),
-        Some(Command::OnElement(edit)) => desk.edit(edit),
-        Some(Command::OnDraft(drafting)) => desk.draft(drafting),
-        Some(Command::OnSelector(asked)) => player.ranks(asked),
-        Some(Command::OnCard(asked)) => call(rt, player, desk, asked),
-    })
+    let Some(command) = read_command(name, rest) else {
+        return Line::Told(Err(Fault::Unknown));
+    };
+    match command {
+        Command::Choose(choice) => Line::Next(choice),
+        Command::OnElement(edit) => Line::Told(desk.edit(edit)),
+        Command::OnDraft(drafting) => Line::Told(desk.draft(drafting)),
+        Command::OnSelector(asked) => Line::Told(player.ranks(asked)),
+        Command::OnCard(asked) => Line::Told(call(rt, player, desk, asked)),
+    }
 }
 
 /// Plays the present line.
@@ -113,6 +115,7 @@ pub fn session<T: Rows, S: Selector + Drop>(
     requires own { S.Selector.ordered own }
 {
     let mut player = Player::<T, S>::new(rt.alloc(), selector, own);
+    // As many lines as there are: each loop is proved to end.
     for _ in 0..u64::MAX {
         if !evening.script.advance()? {
             break;

@@ -66,8 +66,8 @@ impl Tone for Colour {
     }
 
     fn code(self) -> u32 {
-        (u32::from(self.brightness) * 256 + 255 - u32::from(self.saturation)) * 360
-            + u32::from(self.hue)
+        let value = u32::from(self.brightness) * 256 + 255 - u32::from(self.saturation);
+        value * 360 + u32::from(self.hue)
     }
 
     fn of_code(code: u32) -> Colour

@@ -16,7 +16,10 @@ fn colour_codes(rt: HostRuntime) -> Result<(), Fail> {
     for (hue, saturation, brightness, code) in table {
         assert_eq!(rt; Colour::new(hue, saturation, brightness)?.code(), code);
     }
-    assert_eq!(rt; Colour::new(360, 0, 0).map_err(|refusal| refusal.number()), Err(1));
+    assert_eq!(rt;
+        Colour::new(360, 0, 0).map_err(|refusal| refusal.number()),
+        Err(1)
+    );
     Ok(())
 }
 
@@ -51,7 +54,10 @@ fn rows_outside_the_limits(rt: HostRuntime) -> Result<(), Fail> {
     };
     assert_eq!(rt; <Colour as Tone>::of_row(outside).row(), top);
     assert_eq!(rt; <Relief as Tone>::of_row(-256).row(), 255);
-    assert_eq!(rt; Relief::new(-256).map_err(|refusal| refusal.number()), Err(1));
+    assert_eq!(rt;
+        Relief::new(-256).map_err(|refusal| refusal.number()),
+        Err(1)
+    );
     Ok(())
 }
 

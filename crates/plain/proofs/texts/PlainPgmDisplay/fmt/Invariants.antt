@@ -7,4 +7,4 @@ use Rattle.plain.proofs.texts.PlainPgmDisplay.fmt.Given as goal
 abbrev pub invariant-loop-tone : goal.invariant-loop-tone
 invariant-loop-tone g l =
     IsPlainFormatter l.fn.f
-    → HasWritten g.W.Write.write_str_gives l.fn.f (plain l.fn.self.width l.fn.self.height (take l.tone-index l.tone-items)) l.f
+    → HasWritten g.W.Write.write_str_gives l.fn.f (plain (l.fn.self.0).width (l.fn.self.0).height (take l.tone-index l.samples)) l.f
