@@ -1,1 +1,2 @@
+pub mod Cleaning
 pub mod Printed

@@ -1,7 +1,8 @@
-// clean: reads a raw PGM card from standard input and prints it as plain PGM.
+// clean: reads a raw PGM card from standard input and prints it, eroded by the cross of order 2, as plain PGM.
 
 #![tactic(auto)]
 
+mod cleaning;
 mod text;
 
 use plain::input::file_of;

@@ -3,13 +3,15 @@
 ghost use Rattle.clean.specs.Printed.{Printed};
 ghost use Rattle.std.specs.Prelude.{◌≡◌, IfOk, string_bytes};
 
+use crate::cleaning::cleaned;
 use pgm::file::read;
+use pgm::picture::Picture;
 use plain::input::LONGEST;
 use plain::texts::{PlainPgm, Refused};
 use std::alloc::Global;
 use std::io;
 
-/// What is printed of a file. Not one function with `soft_clean`'s: what they do with a picture, as a parameter, is no plainer.
+/// What is printed of a file.
 pub fn report(heap: Global, file: &[u8]) -> io::Result<String>
     ensures { IfOk result (λ s. Printed file.now (string_bytes s)) }
 {
@@ -17,7 +19,14 @@ pub fn report(heap: Global, file: &[u8]) -> io::Result<String>
         return Ok(String::from_str(heap, "too large\n")?);
     }
     match read(file) {
-        Ok(picture) => Ok(PlainPgm(picture).to_string(heap)?),
+        Ok(picture) => {
+            let tones = cleaned(heap, file, picture)?;
+            let eroded = Picture {
+                samples: tones.as_slice(),
+                ..picture
+            };
+            Ok(PlainPgm(eroded).to_string(heap)?)
+        }
         Err(fault) => Ok(Refused(fault).to_string(heap)?),
     }
 }

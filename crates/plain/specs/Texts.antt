@@ -1,8 +1,7 @@
 -- What is printed of a file.
-use Rattle.std.specs.Prelude.{◌≡◌, ℕ, cond, List, ◌++◌, length, codes, decimal, nat_lt}
+use Rattle.std.specs.Prelude.{ℕ, List, ◌++◌, codes, decimal}
 use Rattle.std.specs.List.{flat_map}
 use Rattle.pgm.specs.Numbers.{number_of, byte_of}
-use Rattle.pgm.specs.Reading.{Reading, Reads}
 use Rattle.pgm.specs.declared.faults.FileFault.{FileFault}
 
 abbrev pub line : ℕ → List ℕ
@@ -18,7 +17,3 @@ plain w h tones = codes "P2\n" ++ (decimal w ++ (codes " " ++ (decimal h ++ (cod
 
 abbrev pub refused : FileFault → List ℕ
 refused f = codes "refused " ++ (decimal (number_of f) ++ (codes " " ++ (decimal (byte_of f) ++ codes "\n")))
-
--- a file of more than 16,640 bytes is too large, whatever it holds; of any other the text is one for how it is read
-abbrev pub Tells : (Reading → List ℕ → Type 0) → List ℕ → List ℕ → Type 0
-Tells Text file bs = cond (nat_lt 16640 (length file)) (bs ≡ codes "too large\n") ((x : Reading) × Reads file x × Text x bs)

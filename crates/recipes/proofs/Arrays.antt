@@ -22,9 +22,6 @@ module _ (e : Element) (p : Place) (in' : limited p ≡ true) (free : taken p.dx
   pub push_placed : take (e.count + 1) (set e.places e.count p) ≡ placed e ++ p ∷ []
   push_placed = take_more_set e.places e.count p (omega (arith, e.long, push_fits))
 
-  pub push_long : length (set e.places e.count p) ≡ 49
-  push_long = length-set e.places e.count p ∙ e.long
-
   pub push_lawful : lawful (take (e.count + 1) (set e.places e.count p)) e.order ≡ true
   push_lawful = rw push_placed (lawful_push (placed e) p e.order e.sound in' free)
 

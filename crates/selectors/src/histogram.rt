@@ -74,15 +74,17 @@ impl Selector for Histogram {
     fn select(&self, rank: u32) -> Result<u32, SelectRefusal> {
         ranked(rank, self.sum)?;
         let mut code = 0;
-        let mut running = 0;
+        // What the codes passed leave of the rank: at the first code that weighs as much, the running weight reaches it.
+        let mut left = rank;
         // The histogram's select is to be a loop that yields the code by `break`.
         let chosen = loop {
-            running += u32::from(self.weights[code as usize]);
-            if running >= rank {
+            let weight = u32::from(self.weights[code]);
+            if left <= weight {
                 break code;
             }
+            left -= weight;
             code += 1;
         };
-        Ok(chosen)
+        Ok(chosen as u32)
     }
 }

@@ -2,7 +2,7 @@
 
 ghost use Rattle.std.specs.Prelude.{◌≡◌, ◌*◌, [], ◌∷◌, length, IfOk, Ok};
 ghost use Rattle.calls.specs.Promise.{Promise};
-ghost use Rattle.soft_clean.specs.Cleaning.{CrossOfOrder2, Eroded, HandsOut, Ready, Shades, size, state};
+ghost use Rattle.clean.specs.Cleaning.{CrossOfOrder2, Eroded, HandsOut, Ready, Shades, size, state};
 ghost use Rattle.filters.specs.Restaging.{lines};
 ghost use Rattle.pgm.specs.Reading.{Reads, reading};
 ghost use Rattle.planes.specs.Sizes.{Limits};

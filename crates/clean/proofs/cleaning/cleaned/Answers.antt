@@ -1,9 +1,9 @@
 use Rattle.std.proofs.Common.{◌∙◌}
 use Rattle.std.proofs.lemmas.Result.{IfOk-weaker}
-use Rattle.soft_clean.specs.Cleaning.{HandsOut, Shades, eroded_picture, size, state}
-use Rattle.soft_clean.proofs.Crosses.{eroded_alike}
-use Rattle.soft_clean.proofs.Running.{load_is_ok, install_is_ok, work_is_ok, hands_out}
-use Rattle.soft_clean.proofs.cleaning.cleaned.Goals as goal
+use Rattle.clean.specs.Cleaning.{HandsOut, Shades, eroded_picture, size, state}
+use Rattle.clean.proofs.Crosses.{eroded_alike}
+use Rattle.clean.proofs.Running.{load_is_ok, install_is_ok, work_is_ok, hands_out}
+use Rattle.clean.proofs.cleaning.cleaned.Goals as goal
 
 pub unwrap-requires : goal.unwrap-requires
 unwrap-requires c = load_is_ok _ _ _ _ _ c.requires _ c.opened-card.ensures.promise _ _ c.load.ensures.outcome

@@ -1,9 +1,9 @@
 use Rattle.std.proofs.Common.{◌≡◌, sym, ap, ◌∙◌, arith}
 use Rattle.filters.specs.Restaging.{lines}
 use Rattle.tones.specs.Greys.{greys}
-use Rattle.soft_clean.specs.Cleaning.{state}
-use Rattle.soft_clean.proofs.Collecting.{Bytes, lines_none, lines_next, row_is_ok, row_is_right}
-use Rattle.soft_clean.proofs.cleaning.rows.Goals as goal
+use Rattle.clean.specs.Cleaning.{state}
+use Rattle.clean.proofs.Collecting.{Bytes, lines_none, lines_next, row_is_ok, row_is_right}
+use Rattle.clean.proofs.cleaning.rows.Goals as goal
 
 pub loop-y-init : goal.loop-y-init
 loop-y-init c = λ f _. c.new-tones.ensures.items ∙ sym (lines_none c.args.size f)

@@ -1,7 +1,7 @@
 use Rattle.std.proofs.Common.{is_ok, ap, ◌∙◌}
 use Rattle.recipes.specs.Edits.{order_answer}
 use Rattle.recipes.specs.Shapes.{grid, standard_places}
-use Rattle.soft_clean.proofs.cleaning.cross.Goals as goal
+use Rattle.clean.proofs.cleaning.cross.Goals as goal
 
 pub unwrap-requires-2 : goal.unwrap-requires-2
 unfolding standard_places grid

@@ -18,8 +18,8 @@ use Rattle.calls.specs.Calls.Answer.{Piece, Refused}
 use Rattle.calls.specs.Calls.Call.{Row}
 use Rattle.calls.specs.Outcomes.{Outcome, answer_by, misfit, open_with, row_answer}
 use Rattle.calls.specs.History.{accepted}
-use Rattle.soft_clean.specs.Cleaning.{HandsOut, Shades}
-use Rattle.soft_clean.proofs.Running.{refused}
+use Rattle.clean.specs.Cleaning.{HandsOut, Shades}
+use Rattle.clean.proofs.Running.{refused}
 
 -- the rows of a list that counts as a picture's row
 lined : (f : Shades) (y n x : ℕ) (p : List ℕ) → length p ≡ n → ((i : ℕ) → i < n → get_or p i 0 ≡ greys.row (f (x + i) y)) → p ≡ line greys f y x n

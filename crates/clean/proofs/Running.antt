@@ -37,7 +37,7 @@ use Rattle.calls.proofs.Pixels.{true_holds}
 use Rattle.cards.specs.Loading.{Loads, LoadsBy, load_answer}
 use Rattle.cards.specs.declared.faults.LoadFault.{LoadFault}
 use Rattle.cards.specs.declared.faults.LoadFault.TheVariants.{File, Card}
-use Rattle.soft_clean.specs.Cleaning.{HandsOut, Shades, eroded_picture, pictured, size}
+use Rattle.clean.specs.Cleaning.{HandsOut, Shades, eroded_picture, pictured, size}
 
 -- the limits of a picture
 pub limits : (file : List ℕ) (w h m : ℕ) (samples : List ℕ) → Pgm file w h m samples → Limits (size w h)

@@ -9,7 +9,7 @@ use Rattle.recipes.specs.declared.places.Place.{Place}
 use Rattle.stages.specs.Stages.{weight, inside, code_at, adds, window, ranked, cleaned}
 use Rattle.filters.specs.Restaging.{lines}
 use Rattle.tones.specs.Greys.{greys}
-use Rattle.soft_clean.specs.Cleaning.{CrossOfOrder2, Shades, eroded, pictured}
+use Rattle.clean.specs.Cleaning.{CrossOfOrder2, Shades, eroded, pictured}
 
 module _ (d e : Element) (order : d.order ≡ e.order) (s : Size) (f : Shades) (x y : ℕ) where
   window_alike : (ps : List Place) (c : ℕ) → window greys s (eroding d) f x y ps c ≡ window greys s (eroding e) f x y ps c

@@ -1,8 +1,8 @@
 use Rattle.std.proofs.Common.{◌≡◌, vec_items}
 use Rattle.filters.specs.Restaging.{lines}
 use Rattle.tones.specs.Greys.{greys}
-use Rattle.soft_clean.specs.Cleaning.{HandsOut, Shades, state}
-use Rattle.soft_clean.proofs.cleaning.rows.Given as goal
+use Rattle.clean.specs.Cleaning.{HandsOut, Shades, state}
+use Rattle.clean.proofs.cleaning.rows.Given as goal
 
 -- the rows so far
 abbrev pub invariant-loop-y : goal.invariant-loop-y

@@ -1,2 +1,0 @@
-pub mod Cleaning
-pub mod Printed
