@@ -1,21 +1,31 @@
 -- What is told of a call on a card: the answer that the rules of the call give, by the line that stands for it. Assumes nothing.
-use Rattle.std.specs.Prelude.{◌≡◌, ℕ, Some, None, Err, Option, Result}
+use Rattle.std.specs.Prelude.{◌≡◌, ◌≢◌, ◌⊎◌, ℕ, ◌-◌, ◌*◌, if◌then◌else◌, ◌||◌, List, ◌++◌, length, take, replicate, ℤ, pos, Ok, Some, None, Err, MatchResult, Option, Result, String, ◌==◌, string_bytes}
+use Rattle.std.specs.Borrow.{Bor}
+use Rattle.std.specs.declared.alloc.AllocError.{AllocError}
+use Rattle.std.specs.declared.alloc.Global.{Global}
 use Rattle.tones.specs.Kind.{Kind}
 use Rattle.recipes.specs.declared.draft.Draft.{Draft}
-use Rattle.calls.specs.Calls.{State, Call, done, number}
-use Rattle.calls.specs.Calls.Call.{Install, Work, Left, Due}
+use Rattle.calls.specs.Calls.{Notes, State, Call, done, number, piece}
+use Rattle.calls.specs.Calls.Call.{Install, Patch, Work, Row, Left, Due}
 use Rattle.calls.specs.Calls.Answer.{Number, Next}
-use Rattle.calls.specs.Outcomes.{Outcome}
+use Rattle.calls.specs.Opening.{fresh, open_refusal}
+use Rattle.calls.specs.Outcomes.{Outcome, done_unless, kept_if}
 use Rattle.calls.specs.declared.refusals.Refusal.{Refusal}
 use Rattle.selectors.specs.Played.{Answered}
 use Rattle.selectors.specs.declared.calls.Call.{Call as SelectorCall}
 use Rattle.selectors.specs.declared.calls.CallRefusal.{CallRefusal}
 use Rattle.selectors.specs.declared.calls.Reply.{Reply}
 use Rattle.lines.specs.Told.{call_told, selector_told, work_told}
+use Rattle.lines.specs.Words.{Rest}
 use Rattle.lines.specs.declared.answers.Answer.{Answer}
 use Rattle.lines.specs.declared.answers.Answer.TheVariants as told
 use Rattle.lines.specs.declared.answers.Fault.{Fault}
-use Rattle.lines.specs.declared.answers.Fault.TheVariants.{Unknown}
+use Rattle.lines.specs.declared.answers.Fault.TheVariants.{Unknown, Card, Tone, Memory}
+use Rattle.lines.specs.declared.commands.Opening.{Opening}
+use Rattle.lines.specs.declared.commands.Patch.{Patch as Rectangle}
+use Rattle.rehearse.specs.Rooms.{room_of}
+use Rattle.texts.specs.Rows.{NotRead, relief_shown, rows_text}
+use Rattle.tones.specs.declared.refusals.ToneRefusal.{ToneRefusal}
 
 -- a call that is accepted or refused
 abbrev pub Plays : {T R : Type 0} → Kind T R → State R → Call R → Result Answer Fault → State R → Type 0
@@ -41,3 +51,72 @@ TellsDue K s r = (d : Option (ℕ × ℕ)) × (r ≡ told.Due d) × Outcome K s 
 -- a call on a selector with the bag w and the range R
 abbrev pub Ranks : (ℕ → ℕ) → ℕ → SelectorCall → Result Answer Fault → Type 0
 Ranks w R call r = (x : Result Reply CallRefusal) × Answered w R call x × (r ≡ selector_told x)
+
+-- a call that is not made: its words were not read, or there was no memory for it
+abbrev pub NotMade : Result Answer Fault → Type 0
+NotMade r = (f : Fault) × (r ≡ Err f) × NotRead f
+
+-- rows are told by their text
+abbrev pub RowsTold : {R : Type 0} → (R → List ℕ) → List R → Result Answer Fault → Type 0
+RowsTold shown rows r = MatchResult r (λ a. (t : String Global) × (a ≡ told.Rows t) × (string_bytes t ≡ rows_text shown rows)) (λ f. (m : AllocError) × (f ≡ Memory m))
+
+-- a patch of the rows that the words write
+abbrev pub Patches : {T R : Type 0} → Kind T R → (Rest → List R → Type 0) → State R → Rectangle → Rest → Result Answer Fault → State R → Type 0
+Patches {R = R} K Written s p ws r t = (NotMade r × (t ≡ s)) ⊎ ((rows : List R) × Written ws rows × Plays K s (Patch p.x p.y p.width p.height rows) r t)
+
+-- a piece of the finished card
+abbrev pub PieceTold : {R : Type 0} → (R → List ℕ) → Result (Bor (List R)) Refusal → Result Answer Fault → Type 0
+PieceTold shown (Ok p) r = RowsTold shown p.now r
+PieceTold shown (Err e) r = r ≡ Err (Card e)
+
+abbrev pub TellsRow : {T R : Type 0} → Kind T R → (R → List ℕ) → State R → ℕ → ℕ → ℕ → Result Answer Fault → Type 0
+TellsRow {R = R} K shown s x y n r = (p : Result (Bor (List R)) Refusal) × Outcome K s (Row x y n) (piece p) s × PieceTold shown p r
+
+-- the memory that a card is opened with: plane 0 has the rows, or zeros where there are none, and every other plane zeros; rows of another count are all of the memory
+abbrev pub lent : {R : Type 0} → Option (ℕ × ℕ) → R → List R → List R
+lent None zero rows = rows
+lent (Some room) zero rows = if length rows == 0 || length rows == room.1 then take room.0 rows ++ replicate (room.0 - length rows) zero else rows
+
+-- a card is opened on this memory, which it then has
+pub record Opened {T R : Type 0} (K : Kind T R) (range : ℕ) (s : State R) (o : Opening) (memory : List R) (x : Result (Unit {0}) Refusal) (t : State R) : Type 0 where
+  pub answer : done {R = R} x ≡ done_unless (open_refusal K.count range (length memory) o.width o.height o.stages)
+  pub notes : t.notes ≡ kept_if (open_refusal K.count range (length memory) o.width o.height o.stages) s.notes (Some (fresh o.width o.height o.stages))
+  pub held : MatchResult x (λ _. t.memory ≡ memory) (λ _. t.memory ≡ s.memory)
+  pub weights : t.weights ≡ s.weights
+
+-- a card is opened with the rows that the words write
+abbrev pub Opens : {T R : Type 0} → Kind T R → ℕ → (R → Type 0) → (Rest → List R → Type 0) → State R → Opening → Rest → Result Answer Fault → State R → Type 0
+Opens {R = R} K range Zero Written s o ws r t = (NotMade r × (t ≡ s)) ⊎ ((rows : List R) × (zero : R) × (x : Result (Unit {0}) Refusal) × Written ws rows × Zero zero × (r ≡ call_told x) × Opened K range s o (lent (room_of o.width o.height o.stages) zero rows) x t)
+
+-- the number of the card's pixels after it
+abbrev pub area_after : Result Answer Fault → Opening → ℕ → ℕ
+area_after (Ok a) o before = o.width * o.height
+area_after (Err f) o before = before
+
+-- reliefs are told unless the residue is refused
+abbrev pub ReliefsTold : Result (Unit {0}) Fault → List ℤ → Result Answer Fault → Type 0
+ReliefsTold (Ok _) reliefs r = RowsTold relief_shown reliefs r
+ReliefsTold (Err f) reliefs r = r ≡ Err f
+
+-- a residue, into so many reliefs
+abbrev pub TellsResidue : {R : Type 0} → (Option Notes → List R → List ℤ → Result (Unit {0}) Fault → List ℤ → Type 0) → State R → ℕ → Result Answer Fault → Type 0
+TellsResidue residues s n r = ((m : AllocError) × (r ≡ Err (Memory m)))
+    ⊎ ((x : Result (Unit {0}) Fault) × (reliefs : List ℤ) × residues s.notes s.memory (replicate n (pos 0)) x reliefs × ReliefsTold x reliefs r)
+
+-- what is told of a load
+abbrev pub load_told : Result (Unit {0}) Fault → Result Answer Fault
+load_told (Ok _) = Ok told.Done
+load_told (Err f) = Err f
+
+-- a load of a file, if there is one
+abbrev pub LoadsFile : {R : Type 0} → (State R → ℕ → ℕ → List ℕ → Result (Unit {0}) Fault → State R → Type 0) → State R → ℕ → ℕ → Option (List ℕ) → Result Answer Fault → State R → Type 0
+LoadsFile loads s x y None r t = (r ≡ Err Unknown) × (t ≡ s)
+LoadsFile loads s x y (Some file) r t = (l : Result (Unit {0}) Fault) × (r ≡ load_told l) × loads s x y file l t
+
+-- the tone of the parts that the words write: its code, or the refusal where no tone has them
+abbrev pub ToneTold : {T R : Type 0} → Kind T R → R → Result T ToneRefusal → Result Answer Fault → Type 0
+ToneTold K row (Ok t) r = (K.row t ≡ row) × (r ≡ Ok (told.Counted (K.code t)))
+ToneTold {T = T} K row (Err e) r = ((t : T) → K.row t ≢ row) × (r ≡ Err (Tone e))
+
+abbrev pub TellsTone : {T R : Type 0} → Kind T R → (Rest → R → Type 0) → Rest → Result Answer Fault → Type 0
+TellsTone {T} {R} K Written ws r = (r ≡ Err Unknown) ⊎ ((row : R) × (x : Result T ToneRefusal) × Written ws row × ToneTold K row x r)

@@ -1,9 +1,10 @@
 -- What a player is seen as. Assumes nothing.
-use Rattle.std.specs.Prelude.{List}
+use Rattle.std.specs.Prelude.{ℕ, List}
 use Rattle.cards.specs.declared.card.Card.{Card}
 
--- its card, its memory and its own selector
+-- its card, its memory, the number of the card's pixels, and its own selector
 pub record Seen (T R S : Type 0) : Type 0 where
   pub card : Card T S
   pub memory : List R
+  pub area : ℕ
   pub own : S

@@ -1,10 +1,15 @@
 //! A card with its memory, and a selector of the program's own, on which calls are played.
 
-ghost use Rattle.std.specs.Prelude.{◌≡◌, ℕ};
-ghost use Rattle.cards.specs.Meanings.{InOrder, state_of};
+ghost use Rattle.std.specs.Option.{option_map};
+ghost use Rattle.std.specs.Prelude.{◌≡◌, ℕ, [], IfOk, None};
+ghost use Rattle.calls.specs.Calls.Answer.{Number};
+ghost use Rattle.calls.specs.Calls.Call.{Left};
+ghost use Rattle.calls.specs.Outcomes.{Outcome};
+ghost use Rattle.cards.specs.Meanings.{InOrder, notes, state_of};
 ghost use Rattle.rehearse.specs.Seen.{Seen};
-ghost use Rattle.rehearse.specs.Plays.{HandsOver, Ranks, TellsDue, TellsLeft, Works};
+ghost use Rattle.rehearse.specs.Plays.{HandsOver, LoadsFile, Opens, Patches, Ranks, TellsDue, TellsLeft, TellsResidue, TellsRow, TellsTone, Works, area_after, lent};
 ghost use Rattle.rehearse.specs.Rooms.{room_of};
+ghost use Rattle.texts.specs.Rows.{RowsWritten};
 ghost use Rattle.selectors.specs.Played.{after};
 
 use cards::card::Card;
@@ -15,7 +20,7 @@ use planes::size::Size;
 use recipes::draft::Draft;
 use selectors::Selector;
 use selectors::calls::{Call, play};
-use std::alloc::Global;
+use std::alloc::{AllocError, Global};
 use std::marker::Model;
 use texts::lists::{rows_read, rows_shown};
 use texts::rows::Rows;
@@ -33,7 +38,7 @@ pub struct Player<T: Rows, S: Selector> {
 impl<T: Rows, S: Selector> Model for Player<T, S> {
     ghost Value = { Seen T T.Row S };
 
-    ghost view = { λ p. record { card = p.card; memory = p.memory.items; own = p.own } };
+    ghost view = { λ p. record { card = p.card; memory = p.memory.items; area = p.area; own = p.own } };
 
     ghost invariant = { λ p. InOrder T.Tone.kind S.Selector.range S.Selector.ordered p.card × S.Selector.ordered p.own };
 }
@@ -54,11 +59,30 @@ pub fn room(opening: Opening) -> Option<(usize, usize)>
     Some((frame.start(stages + 1), frame.area()))
 }
 
+/// The memory that a card is opened with: all planes, where the rows fill plane 0 or there are none; else these rows alone.
+fn lent<R: Copy + Default>(
+    mut rows: Vec<R>,
+    room: Option<(usize, usize)>,
+) -> Result<Vec<R>, AllocError>
+    ensures { IfOk result (λ memory. (zero : R) × R.Default.is_default zero × (memory.items ≡ lent room zero rows.items)) }
+{
+    let blank = R::default();
+    if let Some((all, area)) = room {
+        if rows.is_empty() || rows.len() == area {
+            rows.resize(all, blank)?;
+        }
+    }
+    Ok(rows)
+}
+
 impl<T: Rows, S: Selector> Player<T, S> {
     /// A card without a size.
     pub fn new(heap: Global, selector: S, own: S) -> Player<T, S>
         requires selector { S.Selector.ordered selector }
         requires own { S.Selector.ordered own }
+        ensures card { (result.card.selector ≡ selector) × (notes result.card ≡ None) }
+        ensures memory { (result.memory ≡ []) × (result.area ≡ 0) }
+        ensures own { result.own ≡ own }
     {
         Player {
             card: Card::new(selector),
@@ -69,25 +93,20 @@ impl<T: Rows, S: Selector> Player<T, S> {
     }
 
     /// The stale rows of the card.
-    pub fn left(&self) -> usize {
+    pub fn left(&self) -> usize
+        ensures { Outcome T.Tone.kind (state_of S.Selector.weight self.now.card self.now.memory) Left (Number result) (state_of S.Selector.weight self.now.card self.now.memory) }
+    {
         self.card.left()
     }
 
     /// Opens the card with these rows in plane 0, or zeros where there are none. With rows of another count they are all of the memory, which is then refused unless they fill it.
-    pub fn open(
-        &mut self,
-        heap: Global,
-        opening: Opening,
-        words: &[&str],
-    ) -> Result<Answer, Fault> {
-        let mut rows = rows_read::<T>(heap, words)?;
-        let mut pixels = 0;
-        if let Some((all, area)) = room(opening) {
-            pixels = area;
-            if rows.is_empty() || rows.len() == area {
-                rows.resize(all, T::Row::default())?;
-            }
-        }
+    pub fn open(&mut self, heap: Global, opening: Opening, words: &[&str]) -> Result<Answer, Fault>
+        ensures outcome { Opens T.Tone.kind (S.Selector.range self.old.card.selector) T.Row.Default.is_default (RowsWritten T.Rows.written) (state_of S.Selector.weight self.old.card self.old.memory) opening words.now result (state_of S.Selector.weight self.new.card self.new.memory) }
+        ensures area { self.new.area ≡ area_after result opening self.old.area }
+        ensures own { self.new.own ≡ self.old.own }
+    {
+        let room = room(opening);
+        let rows = lent(rows_read::<T>(heap, words)?, room)?;
         let Opening {
             width,
             height,
@@ -95,13 +114,14 @@ impl<T: Rows, S: Selector> Player<T, S> {
         } = opening;
         self.card.open(rows.as_slice(), width, height, stages)?;
         self.memory = rows;
-        self.area = pixels;
+        self.area = room.map_or(0, |(_, area)| area);
         Ok(Answer::Done)
     }
 
     /// Hands a draft over; not read without one.
     pub fn install(&mut self, draft: Option<Draft>) -> Result<Answer, Fault>
         ensures outcome { HandsOver T.Tone.kind (state_of S.Selector.weight self.old.card self.old.memory) draft result (state_of S.Selector.weight self.new.card self.new.memory) }
+        ensures kept { (self.new.area ≡ self.old.area) × (self.new.own ≡ self.old.own) }
     {
         let draft = draft.ok_or(Fault::Unknown)?;
         self.card.install(self.memory.as_slice(), draft)?;
@@ -109,7 +129,10 @@ impl<T: Rows, S: Selector> Player<T, S> {
     }
 
     /// Writes these rows into a rectangle.
-    pub fn patch(&mut self, heap: Global, patch: Patch, words: &[&str]) -> Result<Answer, Fault> {
+    pub fn patch(&mut self, heap: Global, patch: Patch, words: &[&str]) -> Result<Answer, Fault>
+        ensures outcome { Patches T.Tone.kind (RowsWritten T.Rows.written) (state_of S.Selector.weight self.old.card self.old.memory) patch words.now result (state_of S.Selector.weight self.new.card self.new.memory) }
+        ensures kept { (self.new.area ≡ self.old.area) × (self.new.own ≡ self.old.own) }
+    {
         let rows = rows_read::<T>(heap, words)?;
         let Patch {
             x,
@@ -126,13 +149,16 @@ impl<T: Rows, S: Selector> Player<T, S> {
     /// Redoes rows, at most as many as the budget.
     pub fn work(&mut self, budget: usize) -> Result<Answer, Fault>
         ensures outcome { Works T.Tone.kind (state_of S.Selector.weight self.old.card self.old.memory) budget result (state_of S.Selector.weight self.new.card self.new.memory) }
+        ensures kept { (self.new.area ≡ self.old.area) × (self.new.own ≡ self.old.own) }
     {
         let rows = self.card.work(self.memory.as_mut_slice(), budget)?;
         Ok(Answer::Counted(rows as u64))
     }
 
     /// Tells a piece of the finished card.
-    pub fn row(&self, heap: Global, x: usize, y: usize, n: usize) -> Result<Answer, Fault> {
+    pub fn row(&self, heap: Global, x: usize, y: usize, n: usize) -> Result<Answer, Fault>
+        ensures { TellsRow T.Tone.kind T.Rows.shown (state_of S.Selector.weight self.now.card self.now.memory) x y n result }
+    {
         let rows = self.card.row(self.memory.as_slice(), x, y, n)?;
         Ok(Answer::Rows(rows_shown::<T>(heap, rows)?))
     }
@@ -152,14 +178,19 @@ impl<T: Rows, S: Selector> Player<T, S> {
     }
 
     /// Tells raw minus finished; not read where the kind has no residues.
-    pub fn residue(&self, heap: Global) -> Result<Answer, Fault> {
+    pub fn residue(&self, heap: Global) -> Result<Answer, Fault>
+        ensures { TellsResidue T.Rows.residues (state_of S.Selector.weight self.now.card self.now.memory) self.now.area result }
+    {
         let mut reliefs = vec![in heap; 0i16; self.area]?;
         T::residue(&self.card, self.memory.as_slice(), reliefs.as_mut_slice())?;
         Ok(Answer::Rows(rows_shown::<Relief>(heap, reliefs.as_slice())?))
     }
 
     /// Patches the card with a file; not read without one, or where the kind has no files.
-    pub fn load(&mut self, x: usize, y: usize, file: Option<Vec<u8>>) -> Result<Answer, Fault> {
+    pub fn load(&mut self, x: usize, y: usize, file: Option<Vec<u8>>) -> Result<Answer, Fault>
+        ensures outcome { LoadsFile T.Rows.loads (state_of S.Selector.weight self.old.card self.old.memory) x y (option_map (λ bytes. bytes.items) file) result (state_of S.Selector.weight self.new.card self.new.memory) }
+        ensures kept { (self.new.area ≡ self.old.area) × (self.new.own ≡ self.old.own) }
+    {
         let bytes = file.ok_or(Fault::Unknown)?;
         let memory = self.memory.as_mut_slice();
         T::load(&mut self.card, memory, x, y, bytes.as_slice())?;
@@ -167,7 +198,9 @@ impl<T: Rows, S: Selector> Player<T, S> {
     }
 
     /// Makes a tone of these parts, and tells its code.
-    pub fn tone(&self, words: &[&str]) -> Result<Answer, Fault> {
+    pub fn tone(&self, words: &[&str]) -> Result<Answer, Fault>
+        ensures { TellsTone T.Tone.kind T.Rows.written words.now result }
+    {
         let row = T::read(words).ok_or(Fault::Unknown)?;
         let tone = T::make(row)?;
         Ok(Answer::Counted(tone.code() as u64))
@@ -176,6 +209,7 @@ impl<T: Rows, S: Selector> Player<T, S> {
     /// Makes the call on the program's own selector.
     pub fn ranks(&mut self, call: Call) -> Result<Answer, Fault>
         ensures answer { Ranks (S.Selector.weight self.old.own) (S.Selector.range self.old.own) call result }
+        ensures kept { (self.new.card ≡ self.old.card) × (self.new.memory ≡ self.old.memory) × (self.new.area ≡ self.old.area) }
         ensures weights { (c : ℕ) → S.Selector.weight self.new.own c ≡ after (S.Selector.weight self.old.own) (S.Selector.range self.old.own) call c }
     {
         let reply = play(&mut self.own, call)?;

@@ -1,7 +1,12 @@
 //! How the rows of each kind of tones are read and printed, and what only greys can do.
 
-ghost use Rattle.std.specs.Prelude.{◌≡◌, ◌<◌, MatchResult, ◌≢◌};
-ghost use Rattle.cards.specs.Meanings.{InOrder};
+ghost use Rattle.std.specs.Prelude.{◌≡◌, ◌<◌, ◌≢◌, ◌++◌, ℕ, ℤ, List, Option, Result, Ok, IfOk, IfSome, MatchResult, length, string_bytes};
+ghost use Rattle.calls.specs.Calls.{Notes, State};
+ghost use Rattle.cards.specs.Meanings.{InOrder, notes, state_of};
+ghost use Rattle.lines.specs.Words.{Rest, word};
+ghost use Rattle.lines.specs.declared.answers.Fault.{Fault as Refused};
+ghost use Rattle.texts.specs.Cards.{GreyLoad, GreyResidue, NoLoad, NoResidue};
+ghost use Rattle.texts.specs.Rows.{ColourWritten, GreyWritten, MarkWritten, ReliefWritten, colour_shown, mark_shown, relief_shown, spaced};
 
 use cards::card::Card;
 use lines::answers::Fault;
@@ -14,6 +19,18 @@ use tones::{Colour, ColourRow, Grey, Mark, Relief, Tone, ToneRefusal};
 
 /// A kind of tones whose rows can be written in a script. The row by default has the numbers 0.
 pub trait Rows: Tone<Row: Default> {
+    /// Words write a row.
+    ghost written: { Rest → Self.Row → Type 0 };
+
+    /// The text that shows a row: its numbers, each after a space.
+    ghost shown: { Self.Row → List ℕ };
+
+    /// What a residue of a card answers, and what it leaves in the reliefs.
+    ghost residues: { Option Notes → List Self.Row → List ℤ → Result (Unit {0}) Refused → List ℤ → Type 0 };
+
+    /// What a load of a file answers, and the card and the memory that it leaves.
+    ghost loads: { State Self.Row → ℕ → ℕ → List ℕ → Result (Unit {0}) Refused → State Self.Row → Type 0 };
+
     /// How many numbers a row has. No constant, since a law cannot say that a trait's constant is above 0.
     fn parts() -> usize
         ensures { 0 < result }
@@ -22,10 +39,12 @@ pub trait Rows: Tone<Row: Default> {
     }
 
     /// The row that the words write; none where they are too many, too few or no numbers of its parts.
-    fn read(words: &[&str]) -> Option<Self::Row>;
+    fn read(words: &[&str]) -> Option<Self::Row>
+        ensures { IfSome result (λ row. written words.now row) };
 
     /// Adds the numbers of the row to a text, each after a space.
-    fn show(row: Self::Row, text: &mut String) -> Result<(), AllocError>;
+    fn show(row: Self::Row, text: &mut String) -> Result<(), AllocError>
+        ensures { IfOk result (λ _. string_bytes text.new ≡ string_bytes text.old ++ shown row) };
 
     /// The tone of these parts; refused outside the limits.
     fn make(row: Self::Row) -> Result<Self, ToneRefusal>
@@ -33,28 +52,33 @@ pub trait Rows: Tone<Row: Default> {
 
     /// Writes raw minus finished of a card into the reliefs; not read where the kind has no residues.
     fn residue<S: Selector>(
-        _card: &Card<Self, S>,
-        _memory: &[Self::Row],
-        _reliefs: &mut [i16],
-    ) -> Result<(), Fault> {
-        Err(Fault::Unknown)
-    }
+        card: &Card<Self, S>,
+        memory: &[Self::Row],
+        reliefs: &mut [i16],
+    ) -> Result<(), Fault>
+        ensures { residues (notes card.now) memory.now reliefs.old result reliefs.new };
 
     /// Patches a card with a file; not read where the kind has no files.
     fn load<S: Selector>(
         card: &mut Card<Self, S>,
-        _memory: &mut [Self::Row],
-        _x: usize,
-        _y: usize,
-        _file: &[u8],
+        memory: &mut [Self::Row],
+        x: usize,
+        y: usize,
+        file: &[u8],
     ) -> Result<(), Fault>
-        ensures in_order { InOrder Self.Tone.kind S.Selector.range S.Selector.ordered card.old → InOrder Self.Tone.kind S.Selector.range S.Selector.ordered card.new }
-    {
-        Err(Fault::Unknown)
-    }
+        ensures outcome { loads (state_of S.Selector.weight card.old memory.old) x y file.now result (state_of S.Selector.weight card.new memory.new) }
+        ensures in_order { InOrder Self.Tone.kind S.Selector.range S.Selector.ordered card.old → InOrder Self.Tone.kind S.Selector.range S.Selector.ordered card.new };
 }
 
 impl Rows for Mark {
+    ghost written = { MarkWritten };
+
+    ghost shown = { mark_shown };
+
+    ghost residues = { NoResidue };
+
+    ghost loads = { NoLoad };
+
     fn read(words: &[&str]) -> Option<bool> {
         match words {
             ["0"] => Some(false),
@@ -70,12 +94,31 @@ impl Rows for Mark {
     fn make(row: bool) -> Result<Mark, ToneRefusal> {
         Ok(Mark::new(row))
     }
+
+    fn residue<S: Selector>(
+        _card: &Card<Mark, S>,
+        _memory: &[bool],
+        _reliefs: &mut [i16],
+    ) -> Result<(), Fault> {
+        Err(Fault::Unknown)
+    }
+
+    fn load<S: Selector>(
+        _card: &mut Card<Mark, S>,
+        _memory: &mut [bool],
+        _x: usize,
+        _y: usize,
+        _file: &[u8],
+    ) -> Result<(), Fault> {
+        Err(Fault::Unknown)
+    }
 }
 
 /// The number that the only word writes.
 fn only<N: FromStr>(words: &[&str]) -> Option<N>
 where
     N::Err: Drop,
+    ensures { IfSome result (λ n. (length words.now ≡ 1) × N.FromStr.from_str_gives (word words.now 0) (Ok n)) }
 {
     match words {
         [word] => number(word),
@@ -84,6 +127,14 @@ where
 }
 
 impl Rows for Grey {
+    ghost written = { GreyWritten };
+
+    ghost shown = { spaced };
+
+    ghost residues = { GreyResidue };
+
+    ghost loads = { GreyLoad };
+
     fn read(words: &[&str]) -> Option<u8> {
         only(words)
     }
@@ -116,6 +167,14 @@ impl Rows for Grey {
 }
 
 impl Rows for Relief {
+    ghost written = { ReliefWritten };
+
+    ghost shown = { relief_shown };
+
+    ghost residues = { NoResidue };
+
+    ghost loads = { NoLoad };
+
     fn read(words: &[&str]) -> Option<i16> {
         only(words)
     }
@@ -127,9 +186,35 @@ impl Rows for Relief {
     fn make(row: i16) -> Result<Relief, ToneRefusal> {
         Relief::new(row)
     }
+
+    fn residue<S: Selector>(
+        _card: &Card<Relief, S>,
+        _memory: &[i16],
+        _reliefs: &mut [i16],
+    ) -> Result<(), Fault> {
+        Err(Fault::Unknown)
+    }
+
+    fn load<S: Selector>(
+        _card: &mut Card<Relief, S>,
+        _memory: &mut [i16],
+        _x: usize,
+        _y: usize,
+        _file: &[u8],
+    ) -> Result<(), Fault> {
+        Err(Fault::Unknown)
+    }
 }
 
 impl Rows for Colour {
+    ghost written = { ColourWritten };
+
+    ghost shown = { colour_shown };
+
+    ghost residues = { NoResidue };
+
+    ghost loads = { NoLoad };
+
     fn parts() -> usize {
         3
     }
@@ -151,5 +236,23 @@ impl Rows for Colour {
 
     fn make(row: ColourRow) -> Result<Colour, ToneRefusal> {
         Colour::new(row.hue, row.saturation, row.brightness)
+    }
+
+    fn residue<S: Selector>(
+        _card: &Card<Colour, S>,
+        _memory: &[ColourRow],
+        _reliefs: &mut [i16],
+    ) -> Result<(), Fault> {
+        Err(Fault::Unknown)
+    }
+
+    fn load<S: Selector>(
+        _card: &mut Card<Colour, S>,
+        _memory: &mut [ColourRow],
+        _x: usize,
+        _y: usize,
+        _file: &[u8],
+    ) -> Result<(), Fault> {
+        Err(Fault::Unknown)
     }
 }
