@@ -1,6 +1,9 @@
 -- A window prepared for its stage: each place turned into a tap, by which an erosion reads. Assumes nothing.
-use Rattle.std.specs.Prelude.{ℕ, ◌≤◌, cond, ◌&&◌, ℤ, pos, ◌+ℤ◌, neg_ℤ, Some, None, Option, ◌==◌, unsigned_abs}
+use Rattle.std.specs.Prelude.{◌≡◌, ℕ, ◌+◌, ◌<◌, ◌≤◌, true, cond, ◌&&◌, length, ℤ, pos, ◌+ℤ◌, neg_ℤ, Some, None, Option, ◌==◌, unsigned_abs, slice_index_or}
 use Rattle.planes.specs.declared.size.Size.{Size}
+use Rattle.recipes.specs.Placed.{placed}
+use Rattle.recipes.specs.Places.{origin}
+use Rattle.recipes.specs.declared.element.Element.{Element}
 use Rattle.recipes.specs.declared.places.Place.{Place}
 use Rattle.recipes.specs.declared.recipe.Operation.{Operation}
 use Rattle.recipes.specs.declared.recipe.Operation.TheVariants.{Erosion, Dilation}
@@ -45,3 +48,15 @@ module _ {T R : Type 0} (K : Kind T R) (size : Size) (f : Picture T) (x y : ℕ)
 -- a selector of range n has room for one place more: at most 48 places of at most 49 each are in
 abbrev pub Room : (ℕ → ℕ) → ℕ → Type 0
 Room w n = (held w n ≤ 48) × (below w n ≤ 2400)
+
+-- no place of an element has an amount
+abbrev pub Flat : Element → Type 0
+Flat e = (i : ℕ) → i < length (placed e) → (slice_index_or (placed e) i origin).amount ≡ pos 0
+
+-- a pixel is so far from every edge of its card that no place reaches past one
+abbrev pub Inner : Size → ℕ → ℕ → Type 0
+Inner size x y = (3 ≤ x) × (x + 3 < size.width) × (3 ≤ y) × (y + 3 < size.height)
+
+-- a tap falls on the card and lowers nothing
+abbrev pub Near : Size → ℕ → ℕ → Tap → Type 0
+Near size x y t = (on_card size.width (pos x +ℤ t.dx) ≡ true) × (on_card size.height (pos y +ℤ t.dy) ≡ true) × (t.amount ≡ pos 0)

@@ -1,12 +1,13 @@
 //! A pixel of a plane, and what a tap reads there.
 
-ghost use Rattle.std.specs.Prelude.{◌≡◌, ◌<◌, ◌≤◌, length};
+ghost use Rattle.std.specs.Prelude.{◌≡◌, ◌<◌, ◌≤◌, true, length, Some};
 ghost use Rattle.planes.specs.Sizes.{area};
 ghost use Rattle.stages.specs.Planes.{picture};
-ghost use Rattle.stages.specs.Taps.{reached, tap_reads};
+ghost use Rattle.stages.specs.Taps.{Inner, Near, reached, tap_reads};
 
 use crate::taps::Tap;
 use planes::frame::Frame;
+use planes::size::Size;
 use tones::Tone;
 
 /// A pixel of a plane: its column and its row, with the plane around it.
@@ -42,6 +43,25 @@ impl<'a, T: Tone> Site<'a, T> {
         let row = reached(self.y, tap.dy, self.frame.size.height)?;
         let tone = T::of_row(self.plane[self.frame.cell(column, row)]);
         Some(lowered(tone, tap.amount).code())
+    }
+
+    /// The code that a tap reads which falls on the card and lowers nothing.
+    pub(crate) fn code_near(&self, tap: &Tap) -> u32
+        requires { Near self.now.frame.size self.now.x self.now.y tap.now }
+        ensures { Some result ≡ tap_reads T.Tone.kind self.now.frame.size (picture T.Tone.kind self.now.frame.size 0 self.now.plane.now) self.now.x self.now.y tap.now }
+    {
+        let column = self.x.wrapping_add_signed(tap.dx);
+        let row = self.y.wrapping_add_signed(tap.dy);
+        T::of_row(self.plane[self.frame.cell(column, row)]).code()
+    }
+
+    /// That the pixel is so far from every edge of the card that no place reaches past one.
+    pub(crate) fn is_inner(&self) -> bool
+        ensures { result ≡ true → Inner self.now.frame.size self.now.x self.now.y }
+    {
+        let Size { width, height } = self.frame.size;
+        (3..width.saturating_sub(3)).contains(&self.x)
+            && (3..height.saturating_sub(3)).contains(&self.y)
     }
 }
 

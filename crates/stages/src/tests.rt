@@ -88,3 +88,34 @@ fn an_element_to_one_side(rt: HostRuntime) {
         [20, 30, 40, 50, 60, 70, 70, 80, 90],
     );
 }
+
+/// A lone light pixel in the middle of a card, far enough from every edge that its window is read without tests.
+fn speck_made(element: Element) -> [u8; 162] {
+    let frame = Frame::new(Size {
+        width: 9,
+        height: 9,
+    });
+    let window = Window::of(&Stage {
+        operation: Operation::Erosion,
+        element,
+    });
+    let mut memory = [10; 162];
+    memory[40] = 200;
+    let pass = Pass::new(&window, frame, 0, 81);
+    pass.stage_row::<Grey, Histogram>(&mut Histogram::new(), &mut memory, 4, 0, 9);
+    memory
+}
+
+#[test]
+fn far_from_the_edges(rt: HostRuntime) {
+    let mut cross = Element::new();
+    assert!(rt; cross.standard(0).is_ok());
+    assert!(rt; cross.order(2).is_ok());
+    assert_eq!(rt; &speck_made(cross)[117..126], &[10; 9][..]);
+    let mut lowered = Element::new();
+    assert!(rt; lowered.amount(0, 0, 3).is_ok());
+    assert_eq!(rt;
+        &speck_made(lowered)[117..126],
+        &[7, 7, 7, 7, 197, 7, 7, 7, 7][..]
+    );
+}

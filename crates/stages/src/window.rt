@@ -1,11 +1,12 @@
 //! The window of a stage: its element, prepared once for all pixels.
 
-ghost use Rattle.std.specs.Prelude.{◌≡◌, ◌^◌, ◌<◌, ◌≤◌, map, length, take};
+ghost use Rattle.std.specs.Prelude.{◌≡◌, ◌^◌, ◌<◌, ◌≤◌, true, map, length, take};
 ghost use Rattle.recipes.specs.Placed.{placed};
 ghost use Rattle.stages.specs.Stages.{rank_of};
-ghost use Rattle.stages.specs.Taps.{tap_of};
+ghost use Rattle.stages.specs.Taps.{Flat, tap_of};
 
 use crate::taps::Tap;
+use recipes::element::Element;
 use recipes::recipe::{Operation, Stage};
 
 /// A stage with the taps of its places, the first `count` of the array. A fixed array, since an element has at most 49 places and nothing here allocates.
@@ -14,8 +15,10 @@ pub struct Window {
     stage: Stage,
     taps: [Tap; 49],
     count: usize,
+    flat: bool,
     ghost long: { length taps ≡ 49 },
     ghost within: { count ≤ 49 },
+    ghost level: { flat ≡ true → Flat stage.element },
     ghost prepared: { take count taps ≡ map (tap_of stage) (placed stage.element) },
 }
 
@@ -28,6 +31,7 @@ impl Window {
             stage: *stage,
             taps: taps_of(stage),
             count: stage.element.places().len(),
+            flat: is_flat(&stage.element),
         }
     }
 
@@ -36,6 +40,13 @@ impl Window {
         ensures taps { result.now ≡ map (tap_of self.now.stage) (placed self.now.stage.element) }
     {
         &self.taps[..self.count]
+    }
+
+    /// That no place has an amount.
+    pub(crate) fn is_flat(&self) -> bool
+        ensures { result ≡ true → Flat self.now.stage.element }
+    {
+        self.flat
     }
 
     /// The rank that the stage takes of a window of a total weight: an erosion takes the rank k, a dilation the rank total - k + 1.
@@ -49,6 +60,13 @@ impl Window {
             Operation::Dilation => total.saturating_sub(order) + 1,
         }
     }
+}
+
+/// That no place of an element has an amount.
+fn is_flat(element: &Element) -> bool
+    ensures { result ≡ true → Flat element.now }
+{
+    element.places().iter().all(|place| place.amount == 0)
 }
 
 /// The taps of a stage's places, first in an array.
