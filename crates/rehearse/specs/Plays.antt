@@ -21,10 +21,12 @@ use Rattle.lines.specs.declared.answers.Answer.{Answer}
 use Rattle.lines.specs.declared.answers.Answer.TheVariants as told
 use Rattle.lines.specs.declared.answers.Fault.{Fault}
 use Rattle.lines.specs.declared.answers.Fault.TheVariants.{Unknown, Card, Tone, Memory}
+use Rattle.lines.specs.declared.commands.Call.{Call as Asked}
+use Rattle.lines.specs.declared.commands.Call.TheVariants as asked
 use Rattle.lines.specs.declared.commands.Opening.{Opening}
 use Rattle.lines.specs.declared.commands.Patch.{Patch as Rectangle}
 use Rattle.rehearse.specs.Rooms.{room_of}
-use Rattle.texts.specs.Rows.{NotRead, relief_shown, rows_text}
+use Rattle.texts.specs.Rows.{NotRead, RowsWritten, relief_shown, rows_text}
 use Rattle.tones.specs.declared.refusals.ToneRefusal.{ToneRefusal}
 
 -- a call that is accepted or refused
@@ -120,3 +122,19 @@ ToneTold {T = T} K row (Err e) r = ((t : T) → K.row t ≢ row) × (r ≡ Err (
 
 abbrev pub TellsTone : {T R : Type 0} → Kind T R → (Rest → R → Type 0) → Rest → Result Answer Fault → Type 0
 TellsTone {T} {R} K Written ws r = (r ≡ Err Unknown) ⊎ ((row : R) × (x : Result T ToneRefusal) × Written ws row × ToneTold K row x r)
+
+-- what a player's calls go by: the kind of its tones, what words write a row, what text shows one, the row by default, what residues and loads do, and the range of the card's selector
+module _ {T R : Type 0} (K : Kind T R) (Written : Rest → R → Type 0) (shown : R → List ℕ) (Zero : R → Type 0)
+    (residues : Option Notes → List R → List ℤ → Result (Unit {0}) Fault → List ℤ → Type 0) (loads : State R → ℕ → ℕ → List ℕ → Result (Unit {0}) Fault → State R → Type 0) (range : ℕ) where
+  -- the call that a command asks for is made on the card, with the present draft, or with what is read of a file; it is told, and leaves a card with its memory and the number of its pixels
+  abbrev pub Made : State R → ℕ → Option Draft → Asked → Result Answer Fault → State R → ℕ → Type 0
+  Made s n draft (asked.Open o rows) r t m = Opens K range Zero (RowsWritten Written) s o rows.now r t × (m ≡ area_after r o n)
+  Made s n draft asked.Install r t m = HandsOver K s draft r t × (m ≡ n)
+  Made s n draft (asked.Patch p rows) r t m = Patches K (RowsWritten Written) s p rows.now r t × (m ≡ n)
+  Made s n draft (asked.Work b) r t m = Works K s b r t × (m ≡ n)
+  Made s n draft (asked.Row x y count) r t m = TellsRow K shown s x y count r × (t ≡ s) × (m ≡ n)
+  Made s n draft asked.Left r t m = (a : Answer) × (r ≡ Ok a) × TellsLeft K s a × (t ≡ s) × (m ≡ n)
+  Made s n draft asked.Due r t m = (a : Answer) × (r ≡ Ok a) × TellsDue K s a × (t ≡ s) × (m ≡ n)
+  Made s n draft asked.Residue r t m = TellsResidue residues s n r × (t ≡ s) × (m ≡ n)
+  Made s n draft (asked.Load x y path) r t m = (file : Option (List ℕ)) × LoadsFile loads s x y file r t × (m ≡ n)
+  Made s n draft (asked.Tone parts) r t m = TellsTone K Written parts.now r × (t ≡ s) × (m ≡ n)

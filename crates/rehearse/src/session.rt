@@ -1,5 +1,9 @@
 //! Plays the lines of a script on one card, until another is asked for.
 
+ghost use Rattle.std.specs.Prelude.{◌≡◌};
+ghost use Rattle.cards.specs.Meanings.{state_of};
+ghost use Rattle.rehearse.specs.Plays.{Made};
+
 use crate::player::Player;
 use crate::script::{Script, bytes_of};
 use lines::answers::{Answer, Fault};
@@ -50,7 +54,10 @@ fn call<T: Rows, S: Selector>(
     player: &mut Player<T, S>,
     desk: &mut Desk,
     call: Call,
-) -> Result<Answer, Fault> {
+) -> Result<Answer, Fault>
+    ensures made { Made T.Tone.kind T.Rows.written T.Rows.shown T.Row.Default.is_default T.Rows.residues T.Rows.loads (S.Selector.range player.old.card.selector) (state_of S.Selector.weight player.old.card player.old.memory) player.old.area desk.old.draft call.entry result (state_of S.Selector.weight player.new.card player.new.memory) player.new.area }
+    ensures own { player.new.own ≡ player.old.own }
+{
     let heap = rt.alloc();
     match call {
         Call::Open(opening, rows) => player.open(heap, opening, rows),
