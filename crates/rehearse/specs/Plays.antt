@@ -123,6 +123,11 @@ ToneTold {T = T} K row (Err e) r = ((t : T) → K.row t ≢ row) × (r ≡ Err (
 abbrev pub TellsTone : {T R : Type 0} → Kind T R → (Rest → R → Type 0) → Rest → Result Answer Fault → Type 0
 TellsTone {T} {R} K Written ws r = (r ≡ Err Unknown) ⊎ ((row : R) × (x : Result T ToneRefusal) × Written ws row × ToneTold K row x r)
 
+-- the present draft after a call: an install hands it over
+abbrev pub draft_after : Asked → Option Draft → Option Draft
+draft_after asked.Install draft = None
+draft_after call draft = draft
+
 -- what a player's calls go by: the kind of its tones, what words write a row, what text shows one, the row by default, what residues and loads do, and the range of the card's selector
 module _ {T R : Type 0} (K : Kind T R) (Written : Rest → R → Type 0) (shown : R → List ℕ) (Zero : R → Type 0)
     (residues : Option Notes → List R → List ℤ → Result (Unit {0}) Fault → List ℤ → Type 0) (loads : State R → ℕ → ℕ → List ℕ → Result (Unit {0}) Fault → State R → Type 0) (range : ℕ) where

@@ -2,7 +2,7 @@
 
 ghost use Rattle.std.specs.Prelude.{◌≡◌};
 ghost use Rattle.cards.specs.Meanings.{state_of};
-ghost use Rattle.rehearse.specs.Plays.{Made};
+ghost use Rattle.rehearse.specs.Plays.{Made, draft_after};
 
 use crate::player::Player;
 use crate::script::{Script, bytes_of};
@@ -57,6 +57,7 @@ fn call<T: Rows, S: Selector>(
 ) -> Result<Answer, Fault>
     ensures made { Made T.Tone.kind T.Rows.written T.Rows.shown T.Row.Default.is_default T.Rows.residues T.Rows.loads (S.Selector.range player.old.card.selector) (state_of S.Selector.weight player.old.card player.old.memory) player.old.area desk.old.draft call.entry result (state_of S.Selector.weight player.new.card player.new.memory) player.new.area }
     ensures own { player.new.own ≡ player.old.own }
+    ensures desk { (desk.new.element ≡ desk.old.element) × (desk.new.draft ≡ draft_after call.entry desk.old.draft) }
 {
     let heap = rt.alloc();
     match call {
