@@ -1,3 +1,4 @@
 pub mod Plays
 pub mod Rooms
 pub mod Seen
+pub mod Sessions

@@ -3,6 +3,7 @@
 ghost use Rattle.std.specs.Prelude.{◌≡◌};
 ghost use Rattle.cards.specs.Meanings.{state_of};
 ghost use Rattle.rehearse.specs.Plays.{Made, draft_after};
+ghost use Rattle.rehearse.specs.Sessions.{Played};
 
 use crate::player::Player;
 use crate::script::{Script, bytes_of};
@@ -80,7 +81,9 @@ fn play<T: Rows, S: Selector>(
     player: &mut Player<T, S>,
     desk: &mut Desk,
     words: &[&str],
-) -> Line {
+) -> Line
+    ensures { Played T.Tone.kind T.Rows.written T.Rows.shown T.Row.Default.is_default T.Rows.residues T.Rows.loads S.Selector.weight S.Selector.range words.now player.old desk.old result player.new desk.new }
+{
     let [name, rest @ ..] = words else {
         return Line::Empty;
     };

@@ -12,9 +12,11 @@ loop-part-preserved g c =
     let part = c.in-Some.part.now in
     let rest = c.next.new.self.rest.now in
     let (before, split, says) = c.loop-part.invariant in
-    let more : c.push.new.self.items ≡ c.loop-part.rows.items ++ c.in_ok-row.row ∷ [] = search rules in
-    (before ++ part, split ∙ ap (λ ws. before ++ ws) c.in-Some.ensures.steps.1.0 ∙ sym (append_assoc before part rest),
-      rw more (rows_then g.T.Rows.written before part c.loop-part.rows.items c.in_ok-row.row says (search rules)))
+    let more : c.push.new.self.items ≡ c.loop-part.rows.items ++ c.in_ok-row.row ∷ [] = search rules in (
+      before ++ part,
+      split ∙ ap (λ ws. before ++ ws) c.in-Some.ensures.steps.1.0 ∙ sym (append_assoc before part rest),
+      rw more (rows_then g.T.Rows.written before part c.loop-part.rows.items c.in_ok-row.row says (search rules)),
+    )
 
 pub returns : goal.returns
 returns g c =
