@@ -7,4 +7,5 @@ pub mod Places
 pub mod Reaches
 pub mod Recipes
 pub mod Refusals
+pub mod Same
 pub mod Shapes
