@@ -3,7 +3,7 @@
 ghost use Rattle.cards.specs.Loading.{Loads};
 ghost use Rattle.cards.specs.Meanings.{InOrder, state_of};
 ghost use Rattle.tones.specs.Greys.{greys};
-ghost use Rattle.std.specs.Prelude.{◌≡◌};
+ghost use Rattle.std.specs.Prelude.{◌≡◌, OnErr};
 
 use crate::card::Card;
 use crate::faults::LoadFault;
@@ -21,6 +21,7 @@ impl<S: Selector> Card<Grey, S> {
         file: &[u8],
     ) -> Result<(), LoadFault>
         ensures outcome { Loads file.now (state_of S.Selector.weight self.old memory.old) x y result (state_of S.Selector.weight self.new memory.new) }
+        ensures kept { OnErr result (self.new ≡ self.old) }
         ensures selector { self.new.selector ≡ self.old.selector }
         ensures in_order { InOrder greys S.Selector.range S.Selector.ordered self.old → InOrder greys S.Selector.range S.Selector.ordered self.new }
     {

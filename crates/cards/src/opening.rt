@@ -1,6 +1,6 @@
 //! Opening a card.
 
-ghost use Rattle.std.specs.Prelude.{◌≡◌, ◌≤◌, length, Some, OnOk};
+ghost use Rattle.std.specs.Prelude.{◌≡◌, ◌≤◌, length, Some, OnOk, OnErr};
 ghost use Rattle.calls.specs.Calls.{done};
 ghost use Rattle.calls.specs.Opening.{fresh, open_refusal};
 ghost use Rattle.calls.specs.Outcomes.{done_unless, kept_if};
@@ -30,6 +30,7 @@ impl<T: Tone, S: Selector> Card<T, S> {
     ) -> Result<(), Refusal>
         ensures answer { done {R = T.Row} result ≡ done_unless (open_refusal T.Tone.kind.count (S.Selector.range self.old.selector) (length memory.now) width height stages) }
         ensures notes { notes self.new ≡ kept_if (open_refusal T.Tone.kind.count (S.Selector.range self.old.selector) (length memory.now) width height stages) (notes self.old) (Some (fresh width height stages)) }
+        ensures kept { OnErr result (self.new ≡ self.old) }
         ensures selector { self.new.selector ≡ self.old.selector }
         ensures in_order { InOrder T.Tone.kind S.Selector.range S.Selector.ordered self.old → InOrder T.Tone.kind S.Selector.range S.Selector.ordered self.new }
         ensures promise { OnOk result (Promise T.Tone.kind (record { width = width; height = height }) stages (state_of S.Selector.weight self.new memory.now)) }

@@ -1,6 +1,6 @@
 //! The calls on a card of any tones.
 
-ghost use Rattle.std.specs.Prelude.{◌≡◌, ℕ, List, length, None, Ok, Err, ◌==◌, if◌then◌else◌};
+ghost use Rattle.std.specs.Prelude.{◌≡◌, ℕ, List, length, None, Ok, Err, OnErr, ◌==◌, if◌then◌else◌};
 ghost use Rattle.calls.specs.Calls.Answer.{Next, Number};
 ghost use Rattle.calls.specs.Calls.Call.{Due, Install, Left, Patch, Row, Work};
 ghost use Rattle.calls.specs.Calls.{done, number, piece, room};
@@ -46,15 +46,23 @@ impl<T: Tone, S: Selector> Card<T, S> {
         self.sheet.as_ref()?.next()
     }
 
-    /// Redoes so many stale rows as the budget allows, and answers how many. Refused without a size (16) and with memory of another length (14).
+    /// Redoes so many stale rows as the budget allows, and answers how many. Where that is none, the card is as it was, its selector too. Refused without a size (16) and with memory of another length (14).
     pub fn work(&mut self, memory: &mut [T::Row], budget: usize) -> Result<usize, Refusal>
         requires { InOrder T.Tone.kind S.Selector.range S.Selector.ordered self.old }
         ensures outcome { Outcome T.Tone.kind (state_of S.Selector.weight self.old memory.old) (Work budget) (number result) (state_of S.Selector.weight self.new memory.new) }
+        ensures range_kept { S.Selector.range self.new.selector ≡ S.Selector.range self.old.selector }
+        ensures idle { result ≡ Ok 0 → self.new ≡ self.old }
+        ensures kept { OnErr result (self.new ≡ self.old) }
         ensures in_order { InOrder T.Tone.kind S.Selector.range S.Selector.ordered self.new }
     {
-        let sheet = self.sheet.as_mut().ok_or(Refusal::Unopened)?;
+        let Card {
+            selector,
+            sheet,
+            ..
+        } = self;
+        let sheet = sheet.as_mut().ok_or(Refusal::Unopened)?;
         fits(sheet, memory)?;
-        Ok(sheet.work::<T, S>(&mut self.selector, memory, budget))
+        Ok(sheet.work::<T, S>(selector, memory, budget))
     }
 
     /// Lays a rectangle of tones, given by its corner, width and height, over the raw card, row by row; the areas spread. Refused without a size (16), with memory of another length (14), where the rectangle is empty or not wholly on the card (17), and with a wrong count of tones (18).
@@ -68,6 +76,7 @@ impl<T: Tone, S: Selector> Card<T, S> {
         tones: &[T::Row],
     ) -> Result<(), Refusal>
         ensures outcome { Outcome T.Tone.kind (state_of S.Selector.weight self.old memory.old) (Patch x y width height tones.now) (done result) (state_of S.Selector.weight self.new memory.new) }
+        ensures kept { OnErr result (self.new ≡ self.old) }
         ensures selector { self.new.selector ≡ self.old.selector }
         ensures in_order { InOrder T.Tone.kind S.Selector.range S.Selector.ordered self.old → InOrder T.Tone.kind S.Selector.range S.Selector.ordered self.new }
     {
@@ -99,6 +108,7 @@ impl<T: Tone, S: Selector> Card<T, S> {
     /// Replaces the recipe by that of the draft, which is used up; every stage's area is the whole card. Refused without a size (16), with memory of another length (14), with fewer steps than declared (19), more stages than the card has planes for (20), or an amount outside the span (21).
     pub fn install(&mut self, memory: &[T::Row], draft: Draft) -> Result<(), Refusal>
         ensures outcome { Outcome T.Tone.kind (state_of S.Selector.weight self.old memory.now) (Install draft) (done result) (state_of S.Selector.weight self.new memory.now) }
+        ensures kept { OnErr result (self.new ≡ self.old) }
         ensures selector { self.new.selector ≡ self.old.selector }
         ensures in_order { InOrder T.Tone.kind S.Selector.range S.Selector.ordered self.old → InOrder T.Tone.kind S.Selector.range S.Selector.ordered self.new }
     {
