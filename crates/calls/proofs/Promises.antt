@@ -9,7 +9,8 @@ use Rattle.stages.specs.Stages.{Picture, made}
 use Rattle.filters.specs.Morphology.{On, NowhereBelow}
 use Rattle.filters.proofs.Cuts.{goes_with_cuts}
 use Rattle.filters.proofs.Monotony.{keeps_order}
-use Rattle.filters.proofs.Same.{made_same}
+use Rattle.filters.proofs.Same.{made_alike}
+use Rattle.recipes.specs.declared.recipe.Stage.{Stage}
 use Rattle.recipes.specs.Same.{SameRecipe}
 use Rattle.tones.specs.Kind.{Kind, Laws}
 use Rattle.tones.specs.Marks.{mark}
@@ -97,7 +98,7 @@ module _ {T R : Type 0} (K : Kind T R) (law : Laws K) (size : Size) where
         let f = raw_card K size st h in
         let e = raw_card K size other g in
         let one = finishes_right most st begun h at done in
-        let two : (x y : ℕ) → On size x y → finished_card K size g bt x y ≡ made K size (in_force h) e x y = λ x y on. finishes_right others other begun' g bt done' x y on ∙ sym (made_same K size (in_force h) (in_force g) same e x y) in
+        let two : (x y : ℕ) → On size x y → finished_card K size g bt x y ≡ made K size (in_force h) e x y = λ x y on. finishes_right others other begun' g bt done' x y on ∙ sym (made_alike K size (in_force h) (in_force g) same e e (λ u v _ _. refl) x y on.0 on.1) in
         (in_order (in_force h) f e (finished_card K size h at) (finished_card K size g bt) one two, in_order (in_force h) e f (finished_card K size g bt) (finished_card K size h at) two one)
 
     promise : Promise K size most st

@@ -1,5 +1,5 @@
 -- Stages whose operations, order indices and sets of places are the same make the same of a picture. Assumes nothing.
-use Rattle.std.proofs.Common.{◌≡◌, ℕ, cond, ◌&&◌, eqb, nat_abs, List, [], ◌∷◌, sum_by, sym, refl, ap, ◌∙◌}
+use Rattle.std.proofs.Common.{◌≡◌, ℕ, cond, ◌&&◌, eqb, nat_abs, List, [], ◌∷◌, sum_by, sym, ap, ◌∙◌}
 use mathlib.Core.Path.{fun_ext}
 use Rattle.std.proofs.lemmas.List.Sorted.{sum_by-IsPermutation}
 use Rattle.planes.specs.declared.size.Size.{Size}
@@ -55,13 +55,3 @@ module _ {T R : Type 0} (K : Kind T R) (size : Size) where
   made_alike (s ∷ ss) (t ∷ ts) same f g agree =
       made_alike ss ts same.1 (λ x y. cleaned K size s f x y) (λ x y. cleaned K size t g x y)
       (λ x y _ _. cleaned_alike s t same.0 f x y ∙ cleaned_same K size t f g agree x y)
-
-  -- one picture is made the same everywhere
-  pub made_same : (ss ts : List Stage) → SameRecipe ss ts → (f : Picture T) (x y : ℕ) → made K size ss f x y ≡ made K size ts f x y
-  unfolding made
-  made_same [] [] same f x y = refl
-  made_same [] (t ∷ ts) same f x y = absurd same
-  made_same (s ∷ ss) [] same f x y = absurd same
-  made_same (s ∷ ss) (t ∷ ts) same f x y =
-      made_same ss ts same.1 (λ u v. cleaned K size s f u v) x y
-      ∙ ap (λ h. made K size ts h x y) (fun_ext (λ u. fun_ext (λ v. cleaned_alike s t same.0 f u v)))
