@@ -21,7 +21,7 @@ use Rattle.calls.specs.Outcomes.{Outcome}
 use Rattle.calls.specs.History.{History, in_force, stale, raw}
 use Rattle.calls.specs.History.Event.{Worked}
 use Rattle.calls.specs.Runs.{Run, Begun, only_work, budgets, Shows, PieceSays, RowSays}
-use Rattle.calls.specs.Promise.{rows_left, opening, raw_card, finished_card, Finished, InOrder, FewerLeft, HandedOut, ComesClean, FinishesRight, FinishesWithCuts, FinishesInOrder, Promise, KeepsPromise}
+use Rattle.calls.specs.Promise.{rows_left, opening, raw_card, finished_card, Settled, OrderKept, FewerLeft, HandedOut, ComesClean, FinishesRight, FinishesWithCuts, FinishesInOrder, Promise, KeepsPromise}
 use Rattle.calls.proofs.Lessening.{rows_less, last_clean}
 use Rattle.calls.proofs.Rightness.{finished_clean}
 use Rattle.calls.proofs.Keeping.{Kept, kept_run}

@@ -7,9 +7,11 @@ use Rattle.recipes.specs.declared.draft.Draft.{Draft}
 use Rattle.recipes.specs.declared.recipe.Stage.{Stage}
 use Rattle.areas.specs.Areas.{Area}
 use Rattle.calls.specs.declared.refusals.Refusal.{Refusal}
-use Rattle.calls.specs.declared.refusals.Refusal.TheVariants.{Size as BadSize, Memory, Range, Unopened, Outside, Count, TooFewSteps, TooManyStages, Amount, Stale}
+use Rattle.calls.specs.declared.refusals.Refusal.TheVariants.{Stale}
+use Rattle.calls.specs.Refusals.{refusal_number}
 
--- what a card notes once it has a size: the size, the most stages that it has planes for, the recipe in force, and the stale area of each of its stages
+-- what a card notes once it has a size: the size, the most stages that it has planes for, the recipe in force, and the
+-- stale area of each of its stages
 pub record Notes : Type 0 where
   pub size : Size
   pub most : ℕ
@@ -35,7 +37,8 @@ open_state o = record { notes = Some o.notes; weights = o.weights; memory = o.me
 abbrev pub room : Notes → ℕ
 room n = start n.size (suc n.most)
 
--- the calls with their arguments; a patch has a corner, a width, a height and its tones, a row a column, a row and a number of tones
+-- the calls with their arguments; a patch has a corner, a width, a height and its tones, a row a column, a row and a
+-- number of tones
 pub data Call (R : Type 0) : Type 0 where
   Patch : ℕ → ℕ → ℕ → ℕ → List R → Call R
   Install : Draft → Call R
@@ -44,7 +47,8 @@ pub data Call (R : Type 0) : Type 0 where
   Left : Call R
   Due : Call R
 
--- what a call answers: done, a number, a piece of the finished plane, a stage with a row or nothing; or a refusal by its number, which is 22 and the first column met where a piece is stale
+-- what a call answers: done, a number, a piece of the finished plane, a stage with a row or nothing; or a refusal by its
+-- number, which is 22 and the first column met where a piece is stale
 pub data Answer (R : Type 0) : Type 0 where
   Done : Answer R
   Number : ℕ → Answer R
@@ -53,18 +57,10 @@ pub data Answer (R : Type 0) : Type 0 where
   Refused : ℕ → Answer R
   Met : ℕ → Answer R
 
--- a refusal as an answer
+-- a refusal as an answer: by its number, and where a piece is stale with the first column met
 abbrev pub refusal : {R : Type 0} → Refusal → Answer R
-refusal BadSize = Refused 13
-refusal Memory = Refused 14
-refusal Range = Refused 15
-refusal Unopened = Refused 16
-refusal Outside = Refused 17
-refusal Count = Refused 18
-refusal TooFewSteps = Refused 19
-refusal TooManyStages = Refused 20
-refusal Amount = Refused 21
 refusal (Stale c) = Met c
+refusal e = Refused (refusal_number e)
 
 -- the results of the calls as answers
 abbrev pub done : {R : Type 0} → Result (Unit {0}) Refusal → Answer R

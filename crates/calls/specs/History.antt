@@ -35,7 +35,8 @@ accepted (Met c) = false
 
 -- the history after a call and its answer
 abbrev pub noted : {R : Type 0} → Call R → Answer R → History R → History R
-noted (Patch x y width height tones) a h = if accepted a then Patched (rectangle x y width height) tones ∷ h else h
+noted (Patch x y width height tones) a h =
+    if accepted a then Patched (rectangle x y width height) tones ∷ h else h
 noted (Install d) a h = if accepted a then Installed d ∷ h else h
 noted (Work budget) a h = if accepted a then Worked budget ∷ h else h
 noted (Row x y n) a h = h
@@ -65,6 +66,10 @@ stale size (Worked budget ∷ h) = less budget (stale size h)
 abbrev pub holds : Rect → ℕ → ℕ → Bool
 holds r x y = (nat_le r.left x && nat_lt x r.right) && (nat_le r.top y && nat_lt y r.bottom)
 
+-- where in a rectangle's tones, row by row, that of the pixel in column x and row y stands
+abbrev pub place_in : Rect → ℕ → ℕ → ℕ
+place_in r x y = (y - r.top) * (r.right - r.left) + (x - r.left)
+
 module _ {T R : Type 0} (K : Kind T R) where
   -- the picture that plane j of a memory holds
   abbrev pub plane : Size → ℕ → List R → Picture T
@@ -74,7 +79,7 @@ module _ {T R : Type 0} (K : Kind T R) where
   abbrev pub painted : Rect → List R → Picture T → Picture T
   painted r tones f x y =
       if holds r x y
-      then K.counted (slice_index_or tones ((y - r.top) * (r.right - r.left) + (x - r.left)) (blank K))
+      then K.counted (slice_index_or tones (place_in r x y) (blank K))
       else f x y
 
   -- the raw card: the opening tones with all accepted patches, in the order of the calls

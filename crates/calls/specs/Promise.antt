@@ -34,14 +34,15 @@ module _ {T R : Type 0} (K : Kind T R) (size : Size) where
   abbrev pub finished_card : History R → State R → Picture T
   finished_card h at = plane K size (length (in_force h)) at.memory
 
-  -- a run from an open card with that history comes to that state, and nothing is stale there
-  pub record Finished (st : State R) (h : History R) (at : State R) : Type 0 where
+  -- a run from an open card comes to a state by a history, and nothing is stale there
+  pub record Settled (st : State R) (h : History R) (at : State R) : Type 0 where
     pub run : Run K st h at
     pub clean : rows_left size h ≡ 0
 
   -- one finished card is nowhere below another, if the one raw card is nowhere below the other
-  abbrev pub InOrder : State R → History R → State R → State R → History R → State R → Type 0
-  InOrder st h at other g bt =
+  abbrev pub OrderKept : State R → History R → State R →
+      State R → History R → State R → Type 0
+  OrderKept st h at other g bt =
       NowhereBelow K size (raw_card st h) (raw_card other g) →
       NowhereBelow K size (finished_card h at) (finished_card g bt)
 
@@ -59,7 +60,8 @@ module _ {T R : Type 0} (K : Kind T R) (size : Size) where
         (h : History R) (at : State R) → Run K st h at → (budget : ℕ) →
         rows_left size (Worked budget ∷ h) + min budget (rows_left size h) ≡ rows_left size h
 
-    -- after a history h and a part g of the run since then: no patch and no install was accepted since, and the budgets reach the rows that were stale
+    -- since a history h, in the part g of a run, no patch and no install was accepted, and the budgets reach the rows that
+    -- were stale then
     pub record WorkedOff (h g : History R) (at : State R) : Type 0 where
       pub mid : State R
       pub before : Run K st h mid
@@ -67,9 +69,10 @@ module _ {T R : Type 0} (K : Kind T R) (size : Size) where
       pub only : only_work g ≡ true
       pub enough : rows_left size h ≤ budgets g
 
-    -- a piece is handed out, and its tones are what the recipe in force makes of the raw card after a history
+    -- a piece is handed out, and its tones are what the recipe in force makes of the raw card
     abbrev pub HandedOut : History R → ℕ → ℕ → ℕ → Answer R → Type 0
-    HandedOut h x y n a = (p : List R) × (a ≡ Piece p) × Shows K size most (opening st) h x y n p
+    HandedOut h x y n a =
+        (p : List R) × (a ≡ Piece p) × Shows K size most (opening st) h x y n p
 
     -- once worked off, every piece inside is handed out, and it is right
     abbrev pub ComesClean : Type 0
@@ -79,26 +82,31 @@ module _ {T R : Type 0} (K : Kind T R) (size : Size) where
         (a : Answer R) (to : State R) → Outcome K at (Row x y n) a to →
         HandedOut h x y n a
 
-    -- with nothing stale, the finished card is at every pixel what the recipe in force makes of the raw card
+    -- with nothing stale, the finished card is at every pixel what the recipe in force makes of
+    -- the raw card
     abbrev pub FinishesRight : Type 0
     FinishesRight =
-        (h : History R) (at : State R) → Finished st h at → (x y : ℕ) → On size x y →
+        (h : History R) (at : State R) → Settled st h at → (x y : ℕ) → On size x y →
         finished_card h at x y ≡ made K size (in_force h) (raw_card st h) x y
 
-    -- so with all amounts 0, the finished card cut at any tone is what the recipe makes of the raw card cut there
+    -- so with all amounts 0, the finished card cut at any tone is what the recipe makes of the raw
+    -- card cut there
     abbrev pub FinishesWithCuts : Type 0
     FinishesWithCuts =
-        (h : History R) (at : State R) → Finished st h at → amounts_within 0 (in_force h) ≡ true →
+        (h : History R) (at : State R) → Settled st h at →
+        amounts_within 0 (in_force h) ≡ true →
         (t : T) (x y : ℕ) → On size x y →
-        cut K t (finished_card h at) x y ≡ made marks size (in_force h) (cut K t (raw_card st h)) x y
+        cut K t (finished_card h at) x y
+        ≡ made marks size (in_force h) (cut K t (raw_card st h)) x y
 
-    -- and of two cards of one size and the same recipe, with nothing stale on either, a raw one nowhere below the other finishes nowhere below it
+    -- and of two cards of one size and the same recipe, with nothing stale on either, a raw one
+    -- nowhere below the other finishes nowhere below it
     abbrev pub FinishesInOrder : Type 0
     FinishesInOrder =
         (others : ℕ) (other : State R) → Begun size others other →
-        (h g : History R) (at bt : State R) → Finished st h at → Finished other g bt →
+        (h g : History R) (at bt : State R) → Settled st h at → Settled other g bt →
         SameRecipe (in_force h) (in_force g) →
-        InOrder st h at other g bt × InOrder other g bt st h at
+        OrderKept st h at other g bt × OrderKept other g bt st h at
 
     pub record Promise : Type 0 where
       pub answers_right : AnswersRight
@@ -110,4 +118,5 @@ module _ {T R : Type 0} (K : Kind T R) (size : Size) where
 
 -- what a card just opened promises, of every kind of tones
 abbrev pub KeepsPromise : {T R : Type 0} → Kind T R → Type 0
-KeepsPromise {T} {R} K = (size : Size) (most : ℕ) (st : State R) → Begun size most st → Promise K size most st
+KeepsPromise {T} {R} K =
+    (size : Size) (most : ℕ) (st : State R) → Begun size most st → Promise K size most st

@@ -13,14 +13,18 @@ difference raw finished = grey_value (greys.counted raw) -ℤ grey_value (greys.
 -- the differences of n greys from the start of memory and n from a later place on
 unfoldable pub differences : List ℕ → ℕ → ℕ → List ℤ
 differences m from zero = []
-differences m from (suc n) = differences m from n ++ difference (slice_index m n) (slice_index m (from + n)) ∷ []
+differences m from (suc n) =
+    differences m from n ++ difference (slice_index m n) (slice_index m (from + n)) ∷ []
 
--- a residue is refused without a size (16), on memory of another length (14), into a wrong count of reliefs (18), and with column 0 while any stage is stale (22)
+-- a residue is refused without a size (16), on memory of another length (14), into a wrong count of reliefs (18), and
+-- with column 0 while any stage is stale (22)
 abbrev pub residue_answer : Option Notes → List ℕ → ℕ → Answer ℕ
 residue_answer None m count = Refused 16
 residue_answer (Some n) m count =
     if length m == room n
-    then (if count == area n.size then (if stale_rows n.areas == 0 then Done else Met 0) else Refused 18)
+    then (if count == area n.size
+    then (if stale_rows n.areas == 0 then Done else Met 0)
+    else Refused 18)
     else Refused 14
 
 -- each relief is the raw tone minus the finished one
@@ -32,5 +36,7 @@ abbrev pub residue_after : Option Notes → List ℕ → List ℤ → List ℤ
 residue_after None m before = before
 residue_after (Some n) m before =
     if length m == room n
-    then (if length before == area n.size then (if stale_rows n.areas == 0 then residue_of n m else before) else before)
+    then (if length before == area n.size
+    then (if stale_rows n.areas == 0 then residue_of n m else before)
+    else before)
     else before

@@ -11,20 +11,25 @@ use Rattle.tones.specs.Kind.{Kind}
 use Rattle.calls.specs.Calls.{State, Call, Answer, room}
 use Rattle.calls.specs.Calls.Call.{Patch, Install, Work, Row, Left, Due}
 use Rattle.calls.specs.Calls.Answer.{Done, Number, Piece, Next, Refused, Met}
-use Rattle.calls.specs.Outcomes.{done_unless, patch_refusal, install_refusal, Outcome}
+use Rattle.calls.specs.Opening.{fresh}
+use Rattle.calls.specs.Outcomes.{done_unless, patch_refused, install_refusal, Outcome}
 use Rattle.calls.specs.History.{History, noted, in_force, stale, raw}
 use Rattle.calls.specs.History.Event.{Patched, Installed, Worked}
 
--- calls in any number and order, each on the card and the memory as the calls before left them, with the history that they make
+-- calls in any number and order, each on the card and the memory as the calls before left them, with the history that
+-- they make
 pub data Run {T R : Type 0} (K : Kind T R) (from : State R) : History R → State R → Type 0 where
   none : Run K from [] from
-  more : {h : History R} {at : State R} → Run K from h at → (c : Call R) (a : Answer R) (to : State R) → Outcome K at c a to → Run K from (noted c a h) to
+  more :
+      {h : History R} {at : State R} → Run K from h at →
+      (c : Call R) (a : Answer R) (to : State R) → Outcome K at c a to →
+      Run K from (noted c a h) to
 
 -- a card just opened: a size, no recipe, nothing stale, and memory of its length
 pub record Begun {R : Type 0} (size : Size) (most : ℕ) (st : State R) : Type 0 where
-  pub notes : st.notes ≡ Some (record { size = size; most = most; recipe = []; areas = [] })
+  pub notes : st.notes ≡ Some (fresh size.width size.height most)
   pub limits : Limits size
-  pub memory : length st.memory ≡ room (record { size = size; most = most; recipe = []; areas = [] })
+  pub memory : length st.memory ≡ room (fresh size.width size.height most)
 
 -- no patch and no install was accepted
 unfoldable pub only_work : {R : Type 0} → History R → Bool
@@ -41,13 +46,19 @@ budgets (Installed d ∷ h) = budgets h
 budgets (Worked budget ∷ h) = budget + budgets h
 
 -- after a history, on a card with room for that many stages and with these opening tones
-module _ {T R : Type 0} (K : Kind T R) (size : Size) (most : ℕ) (opening : Picture T) (h : History R) where
+module _ {T R : Type 0} (K : Kind T R) (size : Size) (most : ℕ)
+    (opening : Picture T) (h : History R) where
+  -- what the recipe in force makes of the raw card
+  abbrev pub wanted : Picture T
+  wanted = made K size (in_force h) (raw K opening h)
+
   -- the tones of a piece are what the recipe in force makes of the raw card there
   pub record Shows (x y n : ℕ) (p : List R) : Type 0 where
     pub long : length p ≡ n
-    pub tones : (i : ℕ) → i < n → K.counted (slice_index_or p i (blank K)) ≡ made K size (in_force h) (raw K opening h) (x + i) y
+    pub tones : (i : ℕ) → i < n → K.counted (slice_index_or p i (blank K)) ≡ wanted (x + i) y
 
-  -- a piece inside is handed out where it misses the last stage's stale area, with the right tones; where it meets the area it is refused with the first column met
+  -- a piece inside is handed out where it misses the last stage's stale area, with the right tones; where it meets the
+  -- area it is refused with the first column met
   abbrev pub PieceSays : ℕ → ℕ → ℕ → Answer R → Type 0
   PieceSays x y n (Piece p) = Misses (last_area (stale size h)) x y n × Shows x y n p
   PieceSays x y n (Met c) = Meets (last_area (stale size h)) x y n c
@@ -62,7 +73,8 @@ module _ {T R : Type 0} (K : Kind T R) (size : Size) (most : ℕ) (opening : Pic
 
   -- what the rules say that a call answers
   abbrev pub Says : Call R → Answer R → Type 0
-  Says (Patch x y width height tones) a = a ≡ done_unless (patch_refusal (rect_on size x y width height) (width * height) (length tones))
+  Says (Patch x y width height tones) a =
+      a ≡ done_unless (patch_refused size x y width height (length tones))
   Says (Install d) a = a ≡ done_unless (install_refusal K.span most d)
   Says (Work budget) a = a ≡ Number (min budget (stale_rows (stale size h)))
   Says (Row x y n) a = RowSays (rect_on size x y n 1) x y n a

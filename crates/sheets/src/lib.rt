@@ -2,8 +2,5 @@
 
 #![tactic(auto)]
 
-pub mod changes;
 pub mod laying;
-pub mod reads;
-pub mod redoing;
 pub mod sheet;
