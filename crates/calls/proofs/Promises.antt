@@ -9,6 +9,9 @@ use Rattle.stages.specs.Stages.{Picture, made}
 use Rattle.filters.specs.Morphology.{On, NowhereBelow}
 use Rattle.filters.proofs.Cuts.{goes_with_cuts}
 use Rattle.filters.proofs.Monotony.{keeps_order}
+use Rattle.filters.proofs.Same.{made_alike}
+use Rattle.recipes.specs.declared.recipe.Stage.{Stage}
+use Rattle.recipes.specs.Same.{SameRecipe}
 use Rattle.tones.specs.Kind.{Kind, Laws}
 use Rattle.tones.specs.Marks.{mark}
 use Rattle.calls.specs.Calls.{State, Answer}
@@ -18,7 +21,7 @@ use Rattle.calls.specs.Outcomes.{Outcome}
 use Rattle.calls.specs.History.{History, in_force, stale, raw}
 use Rattle.calls.specs.History.Event.{Worked}
 use Rattle.calls.specs.Runs.{Run, Begun, only_work, budgets, Shows, PieceSays, RowSays}
-use Rattle.calls.specs.Promise.{opening, raw_card, finished_card, Clean, Promise, KeepsPromise}
+use Rattle.calls.specs.Promise.{rows_left, opening, raw_card, finished_card, Finished, InOrder, FewerLeft, HandedOut, ComesClean, FinishesRight, FinishesWithCuts, FinishesInOrder, Promise, KeepsPromise}
 use Rattle.calls.proofs.Lessening.{rows_less, last_clean}
 use Rattle.calls.proofs.Rightness.{finished_clean}
 use Rattle.calls.proofs.Keeping.{Kept, kept_run}
@@ -54,52 +57,58 @@ module _ {T R : Type 0} (K : Kind T R) (size : Size) (most : ℕ) (first : Pictu
   }
 
 module _ {T R : Type 0} (K : Kind T R) (law : Laws K) (size : Size) where
-  -- with nothing stale the finished card is what the recipe makes of the raw card
-  finished_is : (most : ℕ) (st : State R) → Begun size most st → (h : History R) (at : State R) → Run K st h at → Clean K size h → (x y : ℕ) → On size x y → finished_card K size h at x y ≡ made K size (in_force h) (raw_card K size st h) x y
-  finished_is most st begun h at run clean =
-      let kept = kept_run K law size most st begun h at run in
-      finished_clean K size (raw_card K size st h) at.memory (in_force h) (stale size h) kept.sound.raw kept.sound.right kept.sound.fit clean
+  -- what holds of a card after every history of a run from its opening
+  kept : (most : ℕ) (st : State R) → Begun size most st → (h : History R) (at : State R) → Run K st h at → Kept K size most (opening K size st) h at
+  kept most st begun = kept_run K law size most st begun
 
-  -- pictures that are made so go in order as the raw ones do
-  in_order : (h g : History R) (f e : Picture T) (f' e' : Picture T) → in_force h ≡ in_force g → ((x y : ℕ) → On size x y → f' x y ≡ made K size (in_force h) f x y) → ((x y : ℕ) → On size x y → e' x y ≡ made K size (in_force g) e x y) → NowhereBelow K size f e → NowhereBelow K size f' e'
-  in_order h g f e f' e' same ff ee low x y on =
-      let less = keeps_order K law size (in_force h) f e low x y on in
+  finishes_right : (most : ℕ) (st : State R) → Begun size most st → FinishesRight K size most st
+  finishes_right most st begun h at done =
+      let sound = (kept most st begun h at done.run).sound in
+      finished_clean K size (raw_card K size st h) at.memory (in_force h) (stale size h) sound.raw sound.right sound.fit done.clean
+
+  -- pictures that a recipe makes of two raw cards go in order as these do
+  in_order : (ss : List Stage) (f e f' e' : Picture T) → ((x y : ℕ) → On size x y → f' x y ≡ made K size ss f x y) → ((x y : ℕ) → On size x y → e' x y ≡ made K size ss e x y) → NowhereBelow K size f e → NowhereBelow K size f' e'
+  in_order ss f e f' e' ff ee low x y on =
+      let less = keeps_order K law size ss f e low x y on in
       let p = ff x y on in
-      let q = ee x y on ∙ ap (λ ss. made K size ss e x y) (sym same) in
+      let q = ee x y on in
       rw (p, q) less
 
   module _ (most : ℕ) (st : State R) (begun : Begun size most st) where
-    -- what holds after every history of a run from there
-    kept : (h : History R) (at : State R) → Run K st h at → Kept K size most (opening K size st) h at
-    kept = kept_run K law size most st begun
-
-    -- with budgets enough every piece inside is handed out
-    comes : (h : History R) (mid : State R) → Run K st h mid → (g : History R) (at : State R) → Run K mid g at → only_work g ≡ true → stale_rows (stale size h) ≤ budgets g → (x y n : ℕ) → is_some (rect_on size x y n 1) ≡ true → (a : Answer R) (to : State R) → Outcome K at (Row x y n) a to → (p : List R) × (a ≡ Piece p) × Shows K size most (opening K size st) h x y n p
-    comes h mid run g at rest only enough x y n inside a to out =
-        let all = kept (g ++ h) at (run_on K st mid h run g at rest) in
-        let clean : stale_rows (stale size (g ++ h)) ≡ 0 = omega (arith, rows_on size g h only (kept h mid run).sound.fit) in
-        let handed = row_handed K size most (opening K size st) (g ++ h) x y n (rect_on size x y n 1) inside (last_clean size (stale size (g ++ h)) all.sound.fit clean) a (says K size most (opening K size st) (g ++ h) at all (Row x y n) a to out) in
-        (handed.0, handed.1, shows_before K size most (opening K size st) g h only x y n handed.0 handed.2)
-
-    -- a work takes the rows that it redoes from those that are stale
-    fewer : (h : History R) (at : State R) → Run K st h at → (budget : ℕ) → stale_rows (stale size (Worked budget ∷ h)) + min budget (stale_rows (stale size h)) ≡ stale_rows (stale size h)
+    fewer_left : FewerLeft K size most st
     unfolding stale
-    fewer h at run budget = omega (arith, rows_less size budget (stale size h) (kept h at run).sound.fit)
+    fewer_left h at run budget = omega (arith, rows_less size budget (stale size h) (kept most st begun h at run).sound.fit)
+
+    comes_clean : ComesClean K size most st
+    comes_clean h g at off x y n inside a to out =
+        let all = kept most st begun (g ++ h) at (run_on K st off.mid h off.before g at off.since) in
+        let clean : stale_rows (stale size (g ++ h)) ≡ 0 = omega (arith, rows_on size g h off.only (kept most st begun h off.mid off.before).sound.fit, off.enough) in
+        let none = last_clean size (stale size (g ++ h)) all.sound.fit clean in
+        let said = says K size most (opening K size st) (g ++ h) at all (Row x y n) a to out in
+        let handed = row_handed K size most (opening K size st) (g ++ h) x y n (rect_on size x y n 1) inside none a said in
+        (handed.0, handed.1, shows_before K size most (opening K size st) g h off.only x y n handed.0 handed.2)
+
+    finishes_with_cuts : FinishesWithCuts K size most st
+    finishes_with_cuts h at done zeros t x y on =
+        ap (λ v. mark (leb (K.code t) (K.code v))) (finishes_right most st begun h at done x y on)
+        ∙ goes_with_cuts K law size (in_force h) zeros t (raw_card K size st h) x y on
+
+    finishes_in_order : FinishesInOrder K size most st
+    finishes_in_order others other begun' h g at bt done done' same =
+        let f = raw_card K size st h in
+        let e = raw_card K size other g in
+        let one = finishes_right most st begun h at done in
+        let two : (x y : ℕ) → On size x y → finished_card K size g bt x y ≡ made K size (in_force h) e x y = λ x y on. finishes_right others other begun' g bt done' x y on ∙ sym (made_alike K size (in_force h) (in_force g) same e e (λ u v _ _. refl) x y on.0 on.1) in
+        (in_order (in_force h) f e (finished_card K size h at) (finished_card K size g bt) one two, in_order (in_force h) e f (finished_card K size g bt) (finished_card K size h at) two one)
 
     promise : Promise K size most st
     promise = record {
-      answers_right = λ h at run c a to out. says K size most (opening K size st) h at (kept h at run) c a to out;
-      fewer_left = fewer;
-      comes_clean = comes;
-      goes_with_cuts = λ h at run clean zeros t x y on.
-          ap (λ v. mark (leb (K.code t) (K.code v))) (finished_is most st begun h at run clean x y on)
-          ∙ goes_with_cuts K law size (in_force h) zeros t (raw_card K size st h) x y on;
-      keeps_order = λ others other begun' h g at bt run run' same clean clean'.
-          let one = finished_is most st begun h at run clean in
-          let two = finished_is others other begun' g bt run' clean' in (
-            in_order h g (raw_card K size st h) (raw_card K size other g) (finished_card K size h at) (finished_card K size g bt) same one two,
-            in_order g h (raw_card K size other g) (raw_card K size st h) (finished_card K size g bt) (finished_card K size h at) (sym same) two one,
-          );
+      answers_right = λ h at run c a to out. says K size most (opening K size st) h at (kept most st begun h at run) c a to out;
+      fewer_left = fewer_left;
+      comes_clean = comes_clean;
+      finishes_right = finishes_right most st begun;
+      finishes_with_cuts = finishes_with_cuts;
+      finishes_in_order = finishes_in_order;
     }
 
 -- every kind of tones keeps it

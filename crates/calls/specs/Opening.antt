@@ -12,9 +12,20 @@ limits width height stages = from_1_to 1024 width && from_1_to 256 height && fro
 
 -- the notes of a card just opened: an empty recipe, and nothing stale
 abbrev pub fresh : ℕ → ℕ → ℕ → Notes
-fresh width height stages = record { size = record { width = width; height = height }; most = stages; recipe = []; areas = [] }
+fresh width height stages = record {
+  size = record { width = width; height = height };
+  most = stages;
+  recipe = [];
+  areas = [];
+}
 
--- an open is refused where the size or the number of stages is outside its limits (13), then where the memory has another length (14), then where the selector's range is smaller than the number of tones (15)
+-- the rows of memory that such a card is lent; nothing outside the limits
+abbrev pub memory_of : ℕ → ℕ → ℕ → Option ℕ
+memory_of width height stages =
+    if limits width height stages then Some (room (fresh width height stages)) else None
+
+-- an open is refused where the size or the number of stages is outside its limits (13), then where the memory has
+-- another length (14), then where the selector's range is smaller than the number of tones (15)
 abbrev pub open_refusal : ℕ → ℕ → ℕ → ℕ → ℕ → ℕ → Option ℕ
 open_refusal tones range long width height stages =
     if limits width height stages

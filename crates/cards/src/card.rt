@@ -1,7 +1,21 @@
-//! A card.
+//! A card, and the calls on it.
 
+ghost use Rattle.std.specs.Prelude.{◌≡◌, ℕ, List, length, Some, None, Ok, Err, OnOk, OnErr, ◌==◌, if◌then◌else◌};
+ghost use Rattle.calls.specs.Calls.{room};
+ghost use Rattle.calls.specs.Opening.{memory_of};
+ghost use Rattle.calls.specs.declared.refusals.Refusal.TheVariants.{Memory};
+ghost use Rattle.sheets.specs.Meanings.{notes_of};
+
+use areas::rect::Rect;
+use calls::refusals::Refusal;
+use planes::frame::Frame;
+use planes::size::Size;
+use recipes::draft::Draft;
+use recipes::recipe::Stage;
+use selectors::Selector;
 use sheets::sheet::Sheet;
 use std::marker::PhantomData;
+use tones::Tone;
 
 /// A card of tones T with a selector S. It has a sheet once it has a size; its tones lie in memory that each call is lent.
 /// That its selector is in order is no invariant: a card may be made of any selector, and each call says that it keeps what holds.
@@ -10,4 +24,213 @@ pub struct Card<T, S> {
     pub(crate) selector: S,
     pub(crate) sheet: Option<Sheet>,
     pub(crate) tones: PhantomData<T>,
+}
+
+impl<T: Tone, S: Selector> Card<T, S> {
+    ghost use Rattle.std.specs.Option.{option_map};
+    ghost use Rattle.calls.specs.Calls.Answer.{Next, Number};
+    ghost use Rattle.calls.specs.Calls.Call.{Due, Install, Left, Patch, Row, Work};
+    ghost use Rattle.calls.specs.Calls.{done, number, piece};
+    ghost use Rattle.calls.specs.Opening.{fresh, open_refusal};
+    ghost use Rattle.calls.specs.Outcomes.{Outcome, done_unless, kept_if};
+    ghost use Rattle.calls.specs.Promise.{Promise};
+    ghost use Rattle.planes.specs.declared.size.Size.{Size as PlaneSize};
+    ghost use Rattle.cards.specs.Meanings.{InOrder, StaysInOrder, notes, recipe_of, selector_of, state_of};
+
+    /// A card without a size.
+    pub fn new(selector: S) -> Self
+        ensures selector { selector_of result ≡ selector }
+        ensures notes { notes result ≡ None }
+        ensures in_order { S.ordered selector → InOrder T.kind S.range S.ordered result }
+    {
+        Card {
+            selector,
+            sheet: None,
+            tones: PhantomData,
+        }
+    }
+
+    /// Gives the card a size: an empty recipe, nothing stale. A card may be opened again: it starts over. Refused where the size or the number of stages is outside its limits (13), with memory of another length (14), and where the selector's range is smaller than the number of tones (15).
+    ///
+    /// What the card promises of every run of calls from there on is the clause `promise`.
+    pub fn open(
+        &mut self,
+        memory: &[T::Row],
+        width: usize,
+        height: usize,
+        stages: usize,
+    ) -> Result<(), Refusal>
+        ensures answer { let range = S.range (selector_of self.old) in
+            done {R = T.Row} result
+            ≡ done_unless (open_refusal T.kind.count range (length memory.now) width height stages) }
+        ensures notes { let range = S.range (selector_of self.old) in
+            let refusal = open_refusal T.kind.count range (length memory.now) width height stages in
+            notes self.new ≡ kept_if refusal (notes self.old) (Some (fresh width height stages)) }
+        ensures selector { selector_of self.new ≡ selector_of self.old }
+        ensures kept { OnErr result (self.new ≡ self.old) }
+        ensures in_order { StaysInOrder T.kind S.range S.ordered self.old self.new }
+        ensures promise { let size : PlaneSize = record { width = width; height = height } in
+            OnOk result (Promise T.kind size stages (state_of S.weight self.new memory.now)) }
+    {
+        let frame = Frame::checked(Size { width, height }).ok_or(Refusal::Size)?;
+        if !(1..=8).contains(&stages) {
+            return Err(Refusal::Size);
+        }
+        let sheet = Sheet::fresh(frame, stages);
+        fits(&sheet, memory)?;
+        if self.selector.range() < T::count() {
+            return Err(Refusal::Range);
+        }
+        self.sheet = Some(sheet);
+        Ok(())
+    }
+
+    /// Replaces the recipe by that of the draft, which is used up; every stage's area is the whole card. Refused without a size (16), with memory of another length (14), with fewer steps than declared (19), more stages than the card has planes for (20), or an amount outside the span (21).
+    pub fn install(&mut self, memory: &[T::Row], draft: Draft) -> Result<(), Refusal>
+        ensures outcome { let from = state_of S.weight self.old memory.now in
+            let to = state_of S.weight self.new memory.now in
+            Outcome T.kind from (Install draft) (done result) to }
+        ensures selector { selector_of self.new ≡ selector_of self.old }
+        ensures kept { OnErr result (self.new ≡ self.old) }
+        ensures in_order { StaysInOrder T.kind S.range S.ordered self.old self.new }
+    {
+        let sheet = self.sheet.as_mut().ok_or(Refusal::Unopened)?;
+        fits(sheet, memory)?;
+        sheet.install::<T>(draft)
+    }
+
+    /// Lays a rectangle of tones, given by its corner, width and height, over the raw card, row by row; the areas spread. Refused without a size (16), with memory of another length (14), where the rectangle is empty or not wholly on the card (17), and with a wrong count of tones (18).
+    pub fn patch(
+        &mut self,
+        memory: &mut [T::Row],
+        x: usize,
+        y: usize,
+        width: usize,
+        height: usize,
+        tones: &[T::Row],
+    ) -> Result<(), Refusal>
+        ensures outcome { let from = state_of S.weight self.old memory.old in
+            let to = state_of S.weight self.new memory.new in
+            Outcome T.kind from (Patch x y width height tones.now) (done result) to }
+        ensures selector { selector_of self.new ≡ selector_of self.old }
+        ensures kept { OnErr result (self.new ≡ self.old) }
+        ensures in_order { StaysInOrder T.kind S.range S.ordered self.old self.new }
+    {
+        let sheet = self.sheet.as_mut().ok_or(Refusal::Unopened)?;
+        fits(sheet, memory)?;
+        sheet.patch::<T>(memory, x, y, width, height, tones)
+    }
+
+    /// Redoes so many stale rows as the budget allows, and answers how many. Where that is none, the card is as it was, its selector too. Refused without a size (16) and with memory of another length (14).
+    pub fn work(&mut self, memory: &mut [T::Row], budget: usize) -> Result<usize, Refusal>
+        requires { InOrder T.kind S.range S.ordered self.old }
+        ensures outcome { let from = state_of S.weight self.old memory.old in
+            let to = state_of S.weight self.new memory.new in
+            Outcome T.kind from (Work budget) (number result) to }
+        ensures idle { result ≡ Ok 0 → self.new ≡ self.old }
+        ensures range_kept { S.range (selector_of self.new) ≡ S.range (selector_of self.old) }
+        ensures kept { OnErr result (self.new ≡ self.old) }
+        ensures in_order { InOrder T.kind S.range S.ordered self.new }
+    {
+        let Card {
+            selector,
+            sheet,
+            ..
+        } = self;
+        let sheet = sheet.as_mut().ok_or(Refusal::Unopened)?;
+        fits(sheet, memory)?;
+        Ok(sheet.work::<T, S>(selector, memory, budget))
+    }
+
+    /// Hands out n tones of row y of the finished plane, from column x on: that part of the memory itself. Refused without a size (16), with memory of another length (14), where the piece is empty or not wholly on the card (17), and where it meets the last stage's stale area, with the first column met (22).
+    pub fn row<'a>(
+        &self,
+        memory: &'a [T::Row],
+        x: usize,
+        y: usize,
+        n: usize,
+    ) -> Result<&'a [T::Row], Refusal>
+        ensures { let at = state_of S.weight self.now memory.now in
+            Outcome T.kind at (Row x y n) (piece result) at }
+    {
+        let sheet = self.sheet.as_ref().ok_or(Refusal::Unopened)?;
+        fits(sheet, memory)?;
+        Rect::on(sheet.frame().size, x, y, n, 1).ok_or(Refusal::Outside)?;
+        if let Some(column) = sheet.first_met(x, y, n) {
+            return Err(Refusal::Stale(column));
+        }
+        let from = sheet.finished_at(x, y);
+        Ok(&memory[from..from + n])
+    }
+
+    /// The stale rows of all stages together; 0 without a size.
+    pub fn left(&self) -> usize
+        ensures { let at = state_of S.weight self.now in
+            (m : List T.Row) → Outcome T.kind (at m) Left (Number result) (at m) }
+    {
+        self.sheet.as_ref().map_or(0, |sheet| sheet.rows_left())
+    }
+
+    /// The stage, counted from 1, and the row that is redone next, or nothing.
+    pub fn due(&self) -> Option<(usize, usize)>
+        ensures { let at = state_of S.weight self.now in
+            (m : List T.Row) → Outcome T.kind (at m) Due (Next result) (at m) }
+    {
+        self.sheet.as_ref()?.next()
+    }
+
+    /// The size, once the card has one.
+    pub fn size(&self) -> Option<Size>
+        ensures { result ≡ option_map (λ n. n.size) (notes self.now) }
+    {
+        Some(self.sheet.as_ref()?.frame().size)
+    }
+
+    /// The most stages that a recipe of the card may have, once it has a size.
+    pub fn stages(&self) -> Option<usize>
+        ensures { result ≡ option_map (λ n. n.most) (notes self.now) }
+    {
+        Some(self.sheet.as_ref()?.most())
+    }
+
+    /// The stages of the recipe in force: none without a size.
+    pub fn recipe(&self) -> &[Stage]
+        ensures { result.now ≡ recipe_of (notes self.now) }
+    {
+        match &self.sheet {
+            Some(sheet) => sheet.recipe(),
+            None => &[],
+        }
+    }
+
+    /// The selector: after work it has the weights of the last window redone.
+    pub fn selector(&self) -> &S
+        ensures { result.now ≡ selector_of self.now }
+    {
+        &self.selector
+    }
+}
+
+/// The rows of memory that a card of a size and a most number of stages is lent; nothing where they are outside their limits.
+pub fn memory_len(width: usize, height: usize, stages: usize) -> Option<usize>
+    ensures { result ≡ memory_of width height stages }
+{
+    let size = Size { width, height };
+    let frame = Frame::checked(size)?;
+    if !(1..=8).contains(&stages) {
+        return None;
+    }
+    Some(frame.start(stages + 1))
+}
+
+/// Refused with memory of another length than the sheet's (14). The test of the sheet before it stands in each call, by a
+/// line: one that hands out the sheet to be changed would hold the selector too, which `work` needs.
+pub(crate) fn fits<R>(sheet: &Sheet, memory: &[R]) -> Result<(), Refusal>
+    ensures { result ≡ (if length memory.now == room (notes_of sheet.now) then Ok tt else Err Memory) }
+{
+    if memory.len() == sheet.room() {
+        Ok(())
+    } else {
+        Err(Refusal::Memory)
+    }
 }

@@ -5,6 +5,4 @@
 pub mod card;
 pub mod faults;
 pub mod loading;
-pub mod opening;
-pub mod operations;
 pub mod residues;

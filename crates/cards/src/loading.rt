@@ -1,9 +1,9 @@
 //! Loading a picture onto a grey card.
 
 ghost use Rattle.cards.specs.Loading.{Loads};
-ghost use Rattle.cards.specs.Meanings.{InOrder, state_of};
+ghost use Rattle.cards.specs.Meanings.{StaysInOrder, selector_of, state_of};
 ghost use Rattle.tones.specs.Greys.{greys};
-ghost use Rattle.std.specs.Prelude.{◌≡◌};
+ghost use Rattle.std.specs.Prelude.{◌≡◌, OnErr};
 
 use crate::card::Card;
 use crate::faults::LoadFault;
@@ -20,9 +20,11 @@ impl<S: Selector> Card<Grey, S> {
         y: usize,
         file: &[u8],
     ) -> Result<(), LoadFault>
-        ensures outcome { Loads file.now (state_of S.Selector.weight self.old memory.old) x y result (state_of S.Selector.weight self.new memory.new) }
-        ensures selector { self.new.selector ≡ self.old.selector }
-        ensures in_order { InOrder greys S.Selector.range S.Selector.ordered self.old → InOrder greys S.Selector.range S.Selector.ordered self.new }
+        ensures outcome { let from = state_of S.weight self.old memory.old in
+            Loads file.now from x y result (state_of S.weight self.new memory.new) }
+        ensures kept { OnErr result (self.new ≡ self.old) }
+        ensures selector { selector_of self.new ≡ selector_of self.old }
+        ensures in_order { StaysInOrder greys S.range S.ordered self.old self.new }
     {
         let picture = read(file)?;
         self.patch(memory, x, y, picture.width, picture.height, picture.samples)?;

@@ -5,8 +5,7 @@ ghost use Rattle.calls.specs.Calls.{done};
 ghost use Rattle.calls.specs.Residue.{difference, differences, residue_after, residue_answer};
 ghost use Rattle.cards.specs.Meanings.{notes};
 
-use crate::card::Card;
-use crate::operations::fits;
+use crate::card::{Card, fits};
 use calls::refusals::Refusal;
 use selectors::Selector;
 use tones::Grey;

@@ -10,3 +10,4 @@ pub mod Numbers
 pub mod Softness
 pub mod Overwriting
 pub mod Lines
+pub mod Same

@@ -1,6 +1,6 @@
 //! How a sheet comes about and changes.
 
-ghost use Rattle.std.specs.Prelude.{◌≡◌, ℕ, ◌≤◌, List, length};
+ghost use Rattle.std.specs.Prelude.{◌≡◌, ℕ, ◌≤◌, List, length, OnErr};
 ghost use Rattle.areas.specs.Areas.{all_stale, spread};
 ghost use Rattle.areas.specs.Listed.{listed};
 ghost use Rattle.areas.specs.Rects.{Fits};
@@ -66,6 +66,7 @@ impl Sheet {
         ensures answer { (w : ℕ → ℕ) → done result ≡ answer_open T.Tone.kind (open_of self.old w memory.old) (Patch x y width height tones.now) }
         ensures notes { (w : ℕ → ℕ) → notes_of self.new ≡ (after_open T.Tone.kind (open_of self.old w memory.old) (Patch x y width height tones.now)).notes }
         ensures memory { (w : ℕ → ℕ) → memory.new ≡ (after_open T.Tone.kind (open_of self.old w memory.old) (Patch x y width height tones.now)).memory }
+        ensures kept { OnErr result (self.new ≡ self.old) }
     {
         let frame = self.frame();
         let rect = Rect::on(frame.size, x, y, width, height).ok_or(Refusal::Outside)?;
@@ -81,6 +82,7 @@ impl Sheet {
     pub fn install<T: Tone>(&mut self, draft: Draft) -> Result<(), Refusal>
         ensures answer { (w : ℕ → ℕ) (m : List T.Row) → done result ≡ answer_open T.Tone.kind (open_of self.old w m) (Install draft) }
         ensures notes { (w : ℕ → ℕ) (m : List T.Row) → notes_of self.new ≡ (after_open T.Tone.kind (open_of self.old w m) (Install draft)).notes }
+        ensures kept { OnErr result (self.new ≡ self.old) }
     {
         let recipe = draft.finish().map_err(|_| Refusal::TooFewSteps)?;
         if recipe.len() > self.most {

@@ -9,6 +9,7 @@ ghost use Rattle.sheets.specs.Meanings.{Stands, notes_of};
 use crate::sheet::Sheet;
 use areas::rect::Rect;
 use planes::frame::Frame;
+use recipes::recipe::Stage;
 
 impl Sheet {
     /// The size of the card, within its limits.
@@ -23,6 +24,20 @@ impl Sheet {
         ensures { result ≡ room (notes_of self.now) }
     {
         self.frame().start(self.most + 1)
+    }
+
+    /// The most stages that there are planes for.
+    pub fn most(&self) -> usize
+        ensures { result ≡ (notes_of self.now).most }
+    {
+        self.most
+    }
+
+    /// The stages of the recipe in force.
+    pub fn recipe(&self) -> &[Stage]
+        ensures { result.now ≡ (notes_of self.now).recipe }
+    {
+        self.recipe.stages()
     }
 
     /// Where the finished plane begins: that of the last stage, plane 0 without stages.

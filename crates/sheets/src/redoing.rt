@@ -43,7 +43,7 @@ impl Sheet {
         self.areas.drop_row();
     }
 
-    /// Redoes so many stale rows as the budget allows, and answers how many.
+    /// Redoes so many stale rows as the budget allows, and answers how many. Where that is none, everything is as it was.
     pub fn work<T: Tone, S: Selector>(
         &mut self,
         selector: &mut S,
@@ -57,6 +57,7 @@ impl Sheet {
         ensures notes { notes_of self.new ≡ (redone_rows T.Tone.kind result (open_of self.old (S.Selector.weight selector.old) memory.old)).notes }
         ensures memory { memory.new ≡ (redone_rows T.Tone.kind result (open_of self.old (S.Selector.weight selector.old) memory.old)).memory }
         ensures weights { (c : ℕ) → S.Selector.weight selector.new c ≡ (redone_rows T.Tone.kind result (open_of self.old (S.Selector.weight selector.old) memory.old)).weights c }
+        ensures idle { result ≡ 0 → (self.new ≡ self.old) × (selector.new ≡ selector.old) }
         ensures range_kept { S.Selector.range selector.new ≡ S.Selector.range selector.old }
         ensures in_order { S.Selector.ordered selector.new }
     {

@@ -8,7 +8,7 @@ pub loop-done-init : goal.loop-done-init
 loop-done-init g c =
     let from = open_of c.args.self.now (g.S.Selector.weight c.args.selector.now) c.args.memory.now in
     let start = sym (redone_none g.T.Tone.kind from) in
-    record { in_order = c.requires.order; range_kept = refl; notes = ap (λ o. o.notes) start; memory = ap (λ o. o.memory) start; weights = λ d. ap (λ o. o.weights d) start }
+    record { in_order = c.requires.order; range_kept = refl; notes = ap (λ o. o.notes) start; memory = ap (λ o. o.memory) start; weights = λ d. ap (λ o. o.weights d) start; idle = λ _. (refl, refl) }
 
 pub redo-requires-clause-room : goal.redo-requires-clause-room
 redo-requires-clause-room g c =
@@ -30,4 +30,5 @@ loop-done-preserved g c =
       notes = notes_more k i from n m was.notes was.memory _ e.notes;
       memory = memory_more k i from n m was.notes was.memory _ e.memory;
       weights = λ d. weights_more k i from n m was.notes was.memory (g.S.Selector.weight c.loop-done.selector) d _ (was.weights d) (e.weights d);
+      idle = λ none. absurd (omega arith);
     }

@@ -14,4 +14,5 @@ invariant-loop-done g l =
       notes : notes_of l.self ≡ (redone_rows k l._done from).notes;
       memory : l.memory ≡ (redone_rows k l._done from).memory;
       weights : (c : ℕ) → s.weight l.selector c ≡ (redone_rows k l._done from).weights c;
+      idle : l._done ≡ 0 → (l.self ≡ l.initial.self) × (l.selector ≡ l.initial.selector);
     }
