@@ -12,4 +12,6 @@ pub fn examples_hold() -> u8
 }
 
 #[cfg(test)]
+mod example;
+#[cfg(test)]
 mod tests;
