@@ -28,7 +28,7 @@ amounts span (p ∷ ps) h =
     let two = and_parts (leb (nat_abs p.amount) span) (places_within span ps) h in
     (leb-true (nat_abs p.amount) span two.0, amounts span ps two.1)
 
-nought : (a : ℤ) → nat_abs a ≤ 0 → a ≡ pos 0
+pub nought : (a : ℤ) → nat_abs a ≤ 0 → a ≡ pos 0
 nought (pos n) h = let e : n ≡ 0 = omega arith in ap pos e
 nought (negsuc n) h = absurd (omega arith)
 

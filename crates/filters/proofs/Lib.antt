@@ -7,7 +7,10 @@ pub mod Vectors
 pub mod Counting
 pub mod Cuts
 pub mod Numbers
+pub mod Choices
 pub mod Softness
+pub mod Steps
 pub mod Overwriting
 pub mod Lines
 pub mod Same
+pub mod Laws

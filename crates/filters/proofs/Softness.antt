@@ -1,10 +1,9 @@
 -- A stage is the k-th smallest or the k-th largest of whole numbers, held to the range. Assumes nothing.
-use Rattle.std.proofs.Common.{◌≡◌, ℕ, zero, suc, ◌+◌, ◌-◌, ◌<◌, ◌≤◌, Bool, true, false, cond, not, ◌&&◌, ltb, List, [], ◌∷◌, replicate, ℤ, pos, negsuc, ◌+ℤ◌, ◌-ℤ◌, neg_ℤ, nat_abs, ◌≤ℤ◌, count_by, sym, refl, ap, ◌∙◌, subst, ⊎_elim, arith}
+use Rattle.std.proofs.Common.{◌≡◌, ℕ, zero, suc, ◌-◌, ◌<◌, ◌≤◌, Bool, true, false, not, ◌&&◌, ltb, List, ℤ, pos, negsuc, ◌+ℤ◌, ◌-ℤ◌, neg_ℤ, nat_abs, ◌≤ℤ◌, sym, refl, ap, ◌∙◌, subst, ⊎_elim, arith}
 use lib.Signed.{lt_z, le_z}
 use Rattle.std.specs.List.{ContainsAt as Has, AllByRecursion}
 use Rattle.std.proofs.ByRecursion.{All-weaker, all-has}
 use Rattle.std.proofs.lemmas.Int.{ints}
-use Rattle.std.proofs.lemmas.List.Sums.{sum_by-append}
 use Rattle.std.proofs.lemmas.Bool.{cases_Bool, lt-ltb, ltb-true, ltb-false, le-ltb, not-true, not_from_false}
 use Rattle.planes.specs.declared.size.Size.{Size}
 use Rattle.recipes.specs.declared.places.Place.{Place}
@@ -12,80 +11,29 @@ use Rattle.recipes.specs.declared.recipe.Operation.{Operation}
 use Rattle.recipes.specs.declared.recipe.Operation.TheVariants.{Erosion, Dilation}
 use Rattle.recipes.specs.declared.recipe.Stage.{Stage}
 use Rattle.recipes.specs.Placed.{placed}
-use Rattle.recipes.specs.Reaches.{reach}
-use Rattle.recipes.proofs.Elements.{reach_bounds, order_positive}
+use Rattle.recipes.proofs.Elements.{order_positive}
 use Rattle.selectors.specs.Bag.{below}
 use Rattle.selectors.proofs.Ranks.{ranked_from}
-use Rattle.stages.specs.Stages.{Picture, weight, rank_of, inside, read, code_at, bag, total, rank, cleaned, shifted}
+use Rattle.stages.specs.Stages.{Picture, rank_of, inside, read, code_at, bag, total, rank, cleaned, shifted}
 use Rattle.stages.proofs.Cleaning.{total_least}
 use Rattle.tones.specs.Kind.{Kind, Laws, held}
 use Rattle.tones.specs.Whole.{WholeNumbers}
 use Rattle.filters.specs.Orders.{Kth}
-use Rattle.filters.specs.Morphology.{On, moved, items, SoftMorphology}
+use Rattle.filters.specs.Morphology.{On, moved, difference, differences, SoftMorphology}
 use Rattle.filters.proofs.Cuts.{amounts}
-use Rattle.filters.proofs.Masses.{mass, mass_le, mass_same, mass_none, mass_split, mass_less}
+use Rattle.filters.proofs.Masses.{mass, mass_le, mass_split}
 use Rattle.filters.proofs.Windows.{under, weighs, below_bag, total_is, picked_one}
-use Rattle.filters.proofs.Numbers.{held_keeps, le_from, le_from_not, meets_from_below, meets_from_above, rising, rising_first, rising_last, rising_next, falling, falling_first, falling_last, falling_next, crossing_at, count_replicate}
+use Rattle.filters.proofs.Numbers.{held_keeps, le_from, le_from_not}
+use Rattle.filters.proofs.Choices.{passing, count_given, smallest, largest, kth_given}
 
 gate : (b s t : Bool) → (s ≡ true → t ≡ true) → (b && s) ≡ true → (b && t) ≡ true
 gate true s t h e = h e
 gate false s t h e = e
 
-gate_same : (b s t : Bool) → s ≡ t → (b && s) ≡ (b && t)
-gate_same b s t e = ap (λ x. b && x) e
-
-gate_shut : (b s : Bool) → s ≡ false → (b && s) ≡ false
-gate_shut true s e = e
-gate_shut false s e = refl
-
-gate_open : (b s : Bool) → s ≡ true → b ≡ true → (b && s) ≡ true
-gate_open true s e h = e
-gate_open false s e h = h
-
-share_count : (t : ℤ → Bool) (b : Bool) (n : ℕ) (z : ℤ) → count_by t (cond b (replicate n z) []) ≡ cond (b && t z) n 0
-share_count t true n z = count_replicate t n z
-share_count t false n z = refl
-
--- what the items that pass a test weigh: their number in the list
+-- the places on the card whose difference or sum passes a test
 module _ {T R : Type 0} (K : Kind T R) (value : T → ℤ) (size : Size) (s : Stage) (f : Picture T) (x y : ℕ) where
-  -- the difference or sum at a place
-  abbrev level : Place → ℤ
-  level p = moved s.operation (value (read K size s f x y p)) p.amount
-
-  -- the places on the card whose number passes a test
-  abbrev passing : (ℤ → Bool) → Place → Bool
-  passing t p = inside K size s f x y p && t (level p)
-
-  count_items : (t : ℤ → Bool) (ps : List Place) → count_by t (items K value size s f x y ps) ≡ mass (weighs K size s f x y) (passing t) ps
-  unfolding items mass
-  count_items t [] = refl
-  count_items t (p ∷ ps) =
-      sum_by-append (λ i. cond {A = ℕ} (t i) 1 0) (cond (inside K size s f x y p) (replicate (weight s.element.order p) (level p)) []) (items K value size s f x y ps)
-      ∙ (ap (λ k. k + count_by t (items K value size s f x y ps)) (share_count t (inside K size s f x y p) (weight s.element.order p) (level p))
-      ∙ ap (λ k. cond (passing t p) (weighs K size s f x y p) 0 + k) (count_items t ps))
-
-  -- a family of tests that none passes at first and all pass at last has one at which so many come to pass
-  crossing : (test : ℕ → ℤ → Bool) (n k : ℕ) (ps : List Place) → AllByRecursion (λ p. test 0 (level p) ≡ false) ps → AllByRecursion (λ p. test n (level p) ≡ true) ps → 0 < k → k ≤ mass (weighs K size s f x y) (inside K size s f x y) ps → (i : ℕ) × (mass (weighs K size s f x y) (passing (test i)) ps < k) × (k ≤ mass (weighs K size s f x y) (passing (test (suc i))) ps)
-  crossing test n k ps none every some enough =
-      let first : mass (weighs K size s f x y) (passing (test 0)) ps ≡ 0 = mass_none (weighs K size s f x y) (passing (test 0)) ps (All-weaker (λ p. test 0 (level p) ≡ false) _ (λ p e. gate_shut (inside K size s f x y p) _ e) ps none) in
-      let last = mass_le (weighs K size s f x y) (inside K size s f x y) (passing (test n)) ps (All-weaker (λ p. test n (level p) ≡ true) _ (λ p e. gate_open (inside K size s f x y p) _ e) ps every) in
-      crossing_at (λ i. mass (weighs K size s f x y) (passing (test i)) ps) k n (omega (arith, first)) (omega (arith, last))
-
-  -- the k-th smallest
-  smallest : (k : ℕ) (ps : List Place) → 0 < k → k ≤ mass (weighs K size s f x y) (inside K size s f x y) ps → (z : ℤ) × (mass (weighs K size s f x y) (passing (λ i. lt_z i z)) ps < k) × (k ≤ mass (weighs K size s f x y) (passing (λ i. le_z i z)) ps)
-  smallest k ps some enough =
-      let b : ℕ = reach level ps in
-      let at = crossing (λ n i. le_z i (rising b n)) (suc (b + b)) k ps (All-weaker (λ p. nat_abs (level p) ≤ b) _ (λ p h. rising_first b (level p) h) ps (reach_bounds level ps)) (All-weaker (λ p. nat_abs (level p) ≤ b) _ (λ p h. rising_last b (level p) h) ps (reach_bounds level ps)) some enough in
-      let same = mass_same (weighs K size s f x y) (passing (λ i. lt_z i (rising b (suc at.0)))) (passing (λ i. le_z i (rising b at.0))) ps (All-weaker (λ p. nat_abs (level p) ≤ b) _ (λ p h. gate_same (inside K size s f x y p) _ _ (rising_next b at.0 (level p))) ps (reach_bounds level ps)) in
-      (rising b (suc at.0), omega (arith, same, at.1), at.2)
-
-  -- the k-th largest
-  largest : (k : ℕ) (ps : List Place) → 0 < k → k ≤ mass (weighs K size s f x y) (inside K size s f x y) ps → (z : ℤ) × (mass (weighs K size s f x y) (passing (λ i. lt_z z i)) ps < k) × (k ≤ mass (weighs K size s f x y) (passing (λ i. le_z z i)) ps)
-  largest k ps some enough =
-      let b : ℕ = reach level ps in
-      let at = crossing (λ n i. le_z (falling b n) i) (suc (b + b)) k ps (All-weaker (λ p. nat_abs (level p) ≤ b) _ (λ p h. falling_first b (level p) h) ps (reach_bounds level ps)) (All-weaker (λ p. nat_abs (level p) ≤ b) _ (λ p h. falling_last b (level p) h) ps (reach_bounds level ps)) some enough in
-      let same = mass_same (weighs K size s f x y) (passing (λ i. lt_z (falling b (suc at.0)) i)) (passing (λ i. le_z (falling b at.0) i)) ps (All-weaker (λ p. nat_abs (level p) ≤ b) _ (λ p h. gate_same (inside K size s f x y p) _ _ (falling_next b at.0 (level p))) ps (reach_bounds level ps)) in
-      (falling b (suc at.0), omega (arith, same, at.1), at.2)
+  abbrev passes : (ℤ → Bool) → Place → Bool
+  passes = passing K size s f x y (difference K size s f x y value)
 
 module _ {T R : Type 0} (K : Kind T R) (low high : ℤ) (value : T → ℤ) (whole : WholeNumbers K low high value) where
   shifted_value : (o : Operation) (t : T) (a : ℤ) → nat_abs a ≤ K.span → value (shifted K o t a) ≡ held low high (moved o (value t) a)
@@ -105,36 +53,36 @@ module _ {T R : Type 0} (K : Kind T R) (low high : ℤ) (value : T → ℤ) (who
 
   module _ (size : Size) (s : Stage) (f : Picture T) (x y : ℕ) (q : Place) (near : nat_abs q.amount ≤ K.span) where
     -- codes beside that of the place q, by the numbers beside its number
-    up : (p : Place) → nat_abs p.amount ≤ K.span → level K value size s f x y q ≤ℤ level K value size s f x y p → code_at K size s f x y q ≤ code_at K size s f x y p
+    up : (p : Place) → nat_abs p.amount ≤ K.span → difference K size s f x y value q ≤ℤ difference K size s f x y value p → code_at K size s f x y q ≤ code_at K size s f x y p
     up p h l = shifted_order s.operation (read K size s f x y q) (read K size s f x y p) q.amount p.amount near h l
 
-    down : (p : Place) → nat_abs p.amount ≤ K.span → level K value size s f x y p ≤ℤ level K value size s f x y q → code_at K size s f x y p ≤ code_at K size s f x y q
+    down : (p : Place) → nat_abs p.amount ≤ K.span → difference K size s f x y value p ≤ℤ difference K size s f x y value q → code_at K size s f x y p ≤ code_at K size s f x y q
     down p h l = shifted_order s.operation (read K size s f x y p) (read K size s f x y q) p.amount q.amount h near l
 
-    strictly_below : (p : Place) → nat_abs p.amount ≤ K.span → ltb (code_at K size s f x y p) (code_at K size s f x y q) ≡ true → lt_z (level K value size s f x y p) (level K value size s f x y q) ≡ true
-    strictly_below p h e = ⊎_elim (λ t. t) (λ (t : lt_z (level K value size s f x y p) (level K value size s f x y q) ≡ false). absurd (omega (arith, up p h (le_from_not (level K value size s f x y p) (level K value size s f x y q) t), ltb-true (code_at K size s f x y p) (code_at K size s f x y q) e))) (cases_Bool (lt_z (level K value size s f x y p) (level K value size s f x y q)))
+    strictly_below : (p : Place) → nat_abs p.amount ≤ K.span → ltb (code_at K size s f x y p) (code_at K size s f x y q) ≡ true → lt_z (difference K size s f x y value p) (difference K size s f x y value q) ≡ true
+    strictly_below p h e = ⊎_elim (λ t. t) (λ (t : lt_z (difference K size s f x y value p) (difference K size s f x y value q) ≡ false). absurd (omega (arith, up p h (le_from_not (difference K size s f x y value p) (difference K size s f x y value q) t), ltb-true (code_at K size s f x y p) (code_at K size s f x y q) e))) (cases_Bool (lt_z (difference K size s f x y value p) (difference K size s f x y value q)))
 
-    up_to : (p : Place) → nat_abs p.amount ≤ K.span → le_z (level K value size s f x y p) (level K value size s f x y q) ≡ true → ltb (code_at K size s f x y p) (suc (code_at K size s f x y q)) ≡ true
-    up_to p h e = lt-ltb (code_at K size s f x y p) (suc (code_at K size s f x y q)) (omega (arith, down p h (le_from (level K value size s f x y p) (level K value size s f x y q) e)))
+    up_to : (p : Place) → nat_abs p.amount ≤ K.span → le_z (difference K size s f x y value p) (difference K size s f x y value q) ≡ true → ltb (code_at K size s f x y p) (suc (code_at K size s f x y q)) ≡ true
+    up_to p h e = lt-ltb (code_at K size s f x y p) (suc (code_at K size s f x y q)) (omega (arith, down p h (le_from (difference K size s f x y value p) (difference K size s f x y value q) e)))
 
-    from_there : (p : Place) → nat_abs p.amount ≤ K.span → le_z (level K value size s f x y q) (level K value size s f x y p) ≡ true → not (ltb (code_at K size s f x y p) (code_at K size s f x y q)) ≡ true
-    from_there p h e = not_from_false (ltb (code_at K size s f x y p) (code_at K size s f x y q)) (le-ltb (code_at K size s f x y p) (code_at K size s f x y q) (up p h (le_from (level K value size s f x y q) (level K value size s f x y p) e)))
+    from_there : (p : Place) → nat_abs p.amount ≤ K.span → le_z (difference K size s f x y value q) (difference K size s f x y value p) ≡ true → not (ltb (code_at K size s f x y p) (code_at K size s f x y q)) ≡ true
+    from_there p h e = not_from_false (ltb (code_at K size s f x y p) (code_at K size s f x y q)) (le-ltb (code_at K size s f x y p) (code_at K size s f x y q) (up p h (le_from (difference K size s f x y value q) (difference K size s f x y value p) e)))
 
-    strictly_above : (p : Place) → nat_abs p.amount ≤ K.span → not (ltb (code_at K size s f x y p) (suc (code_at K size s f x y q))) ≡ true → lt_z (level K value size s f x y q) (level K value size s f x y p) ≡ true
-    strictly_above p h e = ⊎_elim (λ t. t) (λ (t : lt_z (level K value size s f x y q) (level K value size s f x y p) ≡ false). absurd (omega (arith, down p h (le_from_not (level K value size s f x y q) (level K value size s f x y p) t), ltb-false (code_at K size s f x y p) (suc (code_at K size s f x y q)) (not-true (ltb (code_at K size s f x y p) (suc (code_at K size s f x y q))) e)))) (cases_Bool (lt_z (level K value size s f x y q) (level K value size s f x y p)))
+    strictly_above : (p : Place) → nat_abs p.amount ≤ K.span → not (ltb (code_at K size s f x y p) (suc (code_at K size s f x y q))) ≡ true → lt_z (difference K size s f x y value q) (difference K size s f x y value p) ≡ true
+    strictly_above p h e = ⊎_elim (λ t. t) (λ (t : lt_z (difference K size s f x y value q) (difference K size s f x y value p) ≡ false). absurd (omega (arith, down p h (le_from_not (difference K size s f x y value q) (difference K size s f x y value p) t), ltb-false (code_at K size s f x y p) (suc (code_at K size s f x y q)) (not-true (ltb (code_at K size s f x y p) (suc (code_at K size s f x y q))) e)))) (cases_Bool (lt_z (difference K size s f x y value q) (difference K size s f x y value p)))
 
     -- so the code of q is at the rank
     module _ (k : ℕ) (ps : List Place) (fit : AllByRecursion (λ p. nat_abs p.amount ≤ K.span) ps) where
-      eroded : mass (weighs K size s f x y) (passing K value size s f x y (λ i. lt_z i (level K value size s f x y q))) ps < k → k ≤ mass (weighs K size s f x y) (passing K value size s f x y (λ i. le_z i (level K value size s f x y q))) ps → (mass (weighs K size s f x y) (under K size s f x y (code_at K size s f x y q)) ps < k) × (k ≤ mass (weighs K size s f x y) (under K size s f x y (suc (code_at K size s f x y q))) ps)
+      eroded : mass (weighs K size s f x y) (passes K value size s f x y (λ i. lt_z i (difference K size s f x y value q))) ps < k → k ≤ mass (weighs K size s f x y) (passes K value size s f x y (λ i. le_z i (difference K size s f x y value q))) ps → (mass (weighs K size s f x y) (under K size s f x y (code_at K size s f x y q)) ps < k) × (k ≤ mass (weighs K size s f x y) (under K size s f x y (suc (code_at K size s f x y q))) ps)
       eroded few enough =
-          let a = mass_le (weighs K size s f x y) (under K size s f x y (code_at K size s f x y q)) (passing K value size s f x y (λ i. lt_z i (level K value size s f x y q))) ps (All-weaker (λ p. nat_abs p.amount ≤ K.span) _ (λ p h. gate (inside K size s f x y p) _ _ (strictly_below p h)) ps fit) in
-          let b = mass_le (weighs K size s f x y) (passing K value size s f x y (λ i. le_z i (level K value size s f x y q))) (under K size s f x y (suc (code_at K size s f x y q))) ps (All-weaker (λ p. nat_abs p.amount ≤ K.span) _ (λ p h. gate (inside K size s f x y p) _ _ (up_to p h)) ps fit) in
+          let a = mass_le (weighs K size s f x y) (under K size s f x y (code_at K size s f x y q)) (passes K value size s f x y (λ i. lt_z i (difference K size s f x y value q))) ps (All-weaker (λ p. nat_abs p.amount ≤ K.span) _ (λ p h. gate (inside K size s f x y p) _ _ (strictly_below p h)) ps fit) in
+          let b = mass_le (weighs K size s f x y) (passes K value size s f x y (λ i. le_z i (difference K size s f x y value q))) (under K size s f x y (suc (code_at K size s f x y q))) ps (All-weaker (λ p. nat_abs p.amount ≤ K.span) _ (λ p h. gate (inside K size s f x y p) _ _ (up_to p h)) ps fit) in
           (omega (arith, a), omega (arith, b))
 
-      dilated : k ≤ mass (weighs K size s f x y) (inside K size s f x y) ps → mass (weighs K size s f x y) (passing K value size s f x y (λ i. lt_z (level K value size s f x y q) i)) ps < k → k ≤ mass (weighs K size s f x y) (passing K value size s f x y (λ i. le_z (level K value size s f x y q) i)) ps → (mass (weighs K size s f x y) (under K size s f x y (code_at K size s f x y q)) ps < suc (mass (weighs K size s f x y) (inside K size s f x y) ps - k)) × (suc (mass (weighs K size s f x y) (inside K size s f x y) ps - k) ≤ mass (weighs K size s f x y) (under K size s f x y (suc (code_at K size s f x y q))) ps)
+      dilated : k ≤ mass (weighs K size s f x y) (inside K size s f x y) ps → mass (weighs K size s f x y) (passes K value size s f x y (λ i. lt_z (difference K size s f x y value q) i)) ps < k → k ≤ mass (weighs K size s f x y) (passes K value size s f x y (λ i. le_z (difference K size s f x y value q) i)) ps → (mass (weighs K size s f x y) (under K size s f x y (code_at K size s f x y q)) ps < suc (mass (weighs K size s f x y) (inside K size s f x y) ps - k)) × (suc (mass (weighs K size s f x y) (inside K size s f x y) ps - k) ≤ mass (weighs K size s f x y) (under K size s f x y (suc (code_at K size s f x y q))) ps)
       dilated whole-enough few enough =
-          let a = mass_le (weighs K size s f x y) (passing K value size s f x y (λ i. le_z (level K value size s f x y q) i)) (λ p. inside K size s f x y p && not (ltb (code_at K size s f x y p) (code_at K size s f x y q))) ps (All-weaker (λ p. nat_abs p.amount ≤ K.span) _ (λ p h. gate (inside K size s f x y p) _ _ (from_there p h)) ps fit) in
-          let b = mass_le (weighs K size s f x y) (λ p. inside K size s f x y p && not (ltb (code_at K size s f x y p) (suc (code_at K size s f x y q)))) (passing K value size s f x y (λ i. lt_z (level K value size s f x y q) i)) ps (All-weaker (λ p. nat_abs p.amount ≤ K.span) _ (λ p h. gate (inside K size s f x y p) _ _ (strictly_above p h)) ps fit) in
+          let a = mass_le (weighs K size s f x y) (passes K value size s f x y (λ i. le_z (difference K size s f x y value q) i)) (λ p. inside K size s f x y p && not (ltb (code_at K size s f x y p) (code_at K size s f x y q))) ps (All-weaker (λ p. nat_abs p.amount ≤ K.span) _ (λ p h. gate (inside K size s f x y p) _ _ (from_there p h)) ps fit) in
+          let b = mass_le (weighs K size s f x y) (λ p. inside K size s f x y p && not (ltb (code_at K size s f x y p) (suc (code_at K size s f x y q)))) (passes K value size s f x y (λ i. lt_z (difference K size s f x y value q) i)) ps (All-weaker (λ p. nat_abs p.amount ≤ K.span) _ (λ p h. gate (inside K size s f x y p) _ _ (strictly_above p h)) ps fit) in
           let c = mass_split (weighs K size s f x y) (inside K size s f x y) (λ p. ltb (code_at K size s f x y p) (code_at K size s f x y q)) ps in
           let d = mass_split (weighs K size s f x y) (inside K size s f x y) (λ p. ltb (code_at K size s f x y p) (suc (code_at K size s f x y q))) ps in
           (omega (arith, a, c), omega (arith, b, d))
@@ -144,47 +92,43 @@ module _ {T R : Type 0} (K : Kind T R) (low high : ℤ) (value : T → ℤ) (who
     enough_weight = omega (arith, total_least K law size s f x y on.0 on.1, total_is K size s f x y law)
 
     -- a place whose code is at the rank gives the result
-    result_at : (q : Place) → nat_abs q.amount ≤ K.span → (z : ℤ) → level K value size s f x y q ≡ z → below (bag K size s f x y) (code_at K size s f x y q) < rank K size s f x y → rank K size s f x y ≤ below (bag K size s f x y) (suc (code_at K size s f x y q)) → value (cleaned K size s f x y) ≡ held low high z
+    result_at : (q : Place) → nat_abs q.amount ≤ K.span → (z : ℤ) → difference K size s f x y value q ≡ z → below (bag K size s f x y) (code_at K size s f x y q) < rank K size s f x y → rank K size s f x y ≤ below (bag K size s f x y) (suc (code_at K size s f x y q)) → value (cleaned K size s f x y) ≡ held low high z
     result_at q near z e few enough =
         ap value (picked_one K size s f x y law on (shifted K s.operation (read K size s f x y q) q.amount) (ranked_from (bag K size s f x y) (rank K size s f x y) (code_at K size s f x y q) few enough))
         ∙ (shifted_value s.operation (read K size s f x y q) q.amount near ∙ ap (held low high) e)
 
-    erosion_at : s.operation ≡ Erosion → (q : Place) → nat_abs q.amount ≤ K.span → (z : ℤ) → level K value size s f x y q ≡ z → mass (weighs K size s f x y) (passing K value size s f x y (λ i. lt_z i z)) (placed s.element) < s.element.order → s.element.order ≤ mass (weighs K size s f x y) (passing K value size s f x y (λ i. le_z i z)) (placed s.element) → value (cleaned K size s f x y) ≡ held low high z
+    erosion_at : s.operation ≡ Erosion → (q : Place) → nat_abs q.amount ≤ K.span → (z : ℤ) → difference K size s f x y value q ≡ z → mass (weighs K size s f x y) (passes K value size s f x y (λ i. lt_z i z)) (placed s.element) < s.element.order → s.element.order ≤ mass (weighs K size s f x y) (passes K value size s f x y (λ i. le_z i z)) (placed s.element) → value (cleaned K size s f x y) ≡ held low high z
     erosion_at is q near z e few enough =
         let r : rank K size s f x y ≡ s.element.order = ap (λ o. rank_of o s.element.order (total K size s f x y)) is in
-        let m = eroded size s f x y q near s.element.order (placed s.element) fit (subst (λ w. mass (weighs K size s f x y) (passing K value size s f x y (λ i. lt_z i w)) (placed s.element) < s.element.order) (sym e) few) (subst (λ w. s.element.order ≤ mass (weighs K size s f x y) (passing K value size s f x y (λ i. le_z i w)) (placed s.element)) (sym e) enough) in
+        let m = eroded size s f x y q near s.element.order (placed s.element) fit (subst (λ w. mass (weighs K size s f x y) (passes K value size s f x y (λ i. lt_z i w)) (placed s.element) < s.element.order) (sym e) few) (subst (λ w. s.element.order ≤ mass (weighs K size s f x y) (passes K value size s f x y (λ i. le_z i w)) (placed s.element)) (sym e) enough) in
         result_at q near z e (omega (arith, r, m.0, below_bag K size s f x y (code_at K size s f x y q))) (omega (arith, r, m.1, below_bag K size s f x y (suc (code_at K size s f x y q))))
 
-    dilation_at : s.operation ≡ Dilation → (q : Place) → nat_abs q.amount ≤ K.span → (z : ℤ) → level K value size s f x y q ≡ z → mass (weighs K size s f x y) (passing K value size s f x y (λ i. lt_z z i)) (placed s.element) < s.element.order → s.element.order ≤ mass (weighs K size s f x y) (passing K value size s f x y (λ i. le_z z i)) (placed s.element) → value (cleaned K size s f x y) ≡ held low high z
+    dilation_at : s.operation ≡ Dilation → (q : Place) → nat_abs q.amount ≤ K.span → (z : ℤ) → difference K size s f x y value q ≡ z → mass (weighs K size s f x y) (passes K value size s f x y (λ i. lt_z z i)) (placed s.element) < s.element.order → s.element.order ≤ mass (weighs K size s f x y) (passes K value size s f x y (λ i. le_z z i)) (placed s.element) → value (cleaned K size s f x y) ≡ held low high z
     dilation_at is q near z e few enough =
         let r : rank K size s f x y ≡ suc (total K size s f x y - s.element.order) = ap (λ o. rank_of o s.element.order (total K size s f x y)) is in
-        let m = dilated size s f x y q near s.element.order (placed s.element) fit enough_weight (subst (λ w. mass (weighs K size s f x y) (passing K value size s f x y (λ i. lt_z w i)) (placed s.element) < s.element.order) (sym e) few) (subst (λ w. s.element.order ≤ mass (weighs K size s f x y) (passing K value size s f x y (λ i. le_z w i)) (placed s.element)) (sym e) enough) in
+        let m = dilated size s f x y q near s.element.order (placed s.element) fit enough_weight (subst (λ w. mass (weighs K size s f x y) (passes K value size s f x y (λ i. lt_z w i)) (placed s.element) < s.element.order) (sym e) few) (subst (λ w. s.element.order ≤ mass (weighs K size s f x y) (passes K value size s f x y (λ i. le_z w i)) (placed s.element)) (sym e) enough) in
         result_at q near z e (omega (arith, r, m.0, total_is K size s f x y law, below_bag K size s f x y (code_at K size s f x y q))) (omega (arith, r, m.1, total_is K size s f x y law, below_bag K size s f x y (suc (code_at K size s f x y q))))
 
     near_of : (q : Place) → Has (placed s.element) q → nat_abs q.amount ≤ K.span
     near_of q has = all-has (λ p. nat_abs p.amount ≤ K.span) (placed s.element) q fit has
 
-    eroded_law : s.operation ≡ Erosion → (z : ℤ) × Kth Erosion s.element.order (items K value size s f x y (placed s.element)) z × (value (cleaned K size s f x y) ≡ held low high z)
+    eroded_law : s.operation ≡ Erosion → (z : ℤ) × Kth Erosion s.element.order (differences K size s f x y value) z × (value (cleaned K size s f x y) ≡ held low high z)
     eroded_law is =
-        let at = smallest K value size s f x y s.element.order (placed s.element) (order_positive s.element) enough_weight in
-        let found = mass_less (weighs K size s f x y) (passing K value size s f x y (λ i. lt_z i at.0)) (passing K value size s f x y (λ i. le_z i at.0)) (placed s.element) (omega (arith, at.1, at.2)) in
-        let met = meets_from_below (inside K size s f x y found.0) (level K value size s f x y found.0) at.0 found.2 found.3 in (
-          at.0,
-          (omega (arith, at.1, count_items K value size s f x y (λ i. lt_z i at.0) (placed s.element)), omega (arith, at.2, count_items K value size s f x y (λ i. le_z i at.0) (placed s.element))),
-          erosion_at is found.0 (near_of found.0 found.1) at.0 met.1 at.1 at.2,
-        )
+        let number = difference K size s f x y value in
+        let at = smallest K size s f x y number s.element.order (placed s.element) (order_positive s.element) enough_weight in
+        let kth : Kth Erosion s.element.order (differences K size s f x y value) at.0 = (omega (arith, at.1, count_given K size s f x y number (λ i. lt_z i at.0) (placed s.element)), omega (arith, at.2, count_given K size s f x y number (λ i. le_z i at.0) (placed s.element))) in
+        let found = kth_given K size s f x y number Erosion s.element.order (placed s.element) at.0 kth in
+        (at.0, kth, erosion_at is found.0 (near_of found.0 found.1) at.0 found.2 at.1 at.2)
 
-    dilated_law : s.operation ≡ Dilation → (z : ℤ) × Kth Dilation s.element.order (items K value size s f x y (placed s.element)) z × (value (cleaned K size s f x y) ≡ held low high z)
+    dilated_law : s.operation ≡ Dilation → (z : ℤ) × Kth Dilation s.element.order (differences K size s f x y value) z × (value (cleaned K size s f x y) ≡ held low high z)
     dilated_law is =
-        let at = largest K value size s f x y s.element.order (placed s.element) (order_positive s.element) enough_weight in
-        let found = mass_less (weighs K size s f x y) (passing K value size s f x y (λ i. lt_z at.0 i)) (passing K value size s f x y (λ i. le_z at.0 i)) (placed s.element) (omega (arith, at.1, at.2)) in
-        let met = meets_from_above (inside K size s f x y found.0) (level K value size s f x y found.0) at.0 found.2 found.3 in (
-          at.0,
-          (omega (arith, at.1, count_items K value size s f x y (λ i. lt_z at.0 i) (placed s.element)), omega (arith, at.2, count_items K value size s f x y (λ i. le_z at.0 i) (placed s.element))),
-          dilation_at is found.0 (near_of found.0 found.1) at.0 met.1 at.1 at.2,
-        )
+        let number = difference K size s f x y value in
+        let at = largest K size s f x y number s.element.order (placed s.element) (order_positive s.element) enough_weight in
+        let kth : Kth Dilation s.element.order (differences K size s f x y value) at.0 = (omega (arith, at.1, count_given K size s f x y number (λ i. lt_z at.0 i) (placed s.element)), omega (arith, at.2, count_given K size s f x y number (λ i. le_z at.0 i) (placed s.element))) in
+        let found = kth_given K size s f x y number Dilation s.element.order (placed s.element) at.0 kth in
+        (at.0, kth, dilation_at is found.0 (near_of found.0 found.1) at.0 found.2 at.1 at.2)
 
-    stage_law : (o : Operation) → s.operation ≡ o → (z : ℤ) × Kth o s.element.order (items K value size s f x y (placed s.element)) z × (value (cleaned K size s f x y) ≡ held low high z)
+    pub stage_law : (o : Operation) → s.operation ≡ o → (z : ℤ) × Kth o s.element.order (differences K size s f x y value) z × (value (cleaned K size s f x y) ≡ held low high z)
     stage_law Erosion is = eroded_law is
     stage_law Dilation is = dilated_law is
 

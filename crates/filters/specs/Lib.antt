@@ -1,3 +1,5 @@
 pub mod Orders
 pub mod Morphology
+pub mod Steps
+pub mod Laws
 pub mod Restaging

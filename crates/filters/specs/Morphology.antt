@@ -1,6 +1,7 @@
--- The laws of soft morphology, of every kind of tones. Opening and closing are two stages with one element, so each law that speaks of a list of stages holds of them, and each law of one stage holds of both of theirs. Assumes nothing.
-use Rattle.std.specs.Prelude.{◌≡◌, ℕ, suc, ◌+◌, ◌-◌, ◌<◌, ◌≤◌, true, cond, ◌↔◌, List, [], ◌∷◌, ◌++◌, replicate, ℤ, ◌+ℤ◌, ◌-ℤ◌, nat_le}
-use Rattle.std.specs.List.{ContainsAt as Has}
+-- The laws of soft morphology that speak of a stage or of any list of stages, for every kind of
+-- tones. Assumes nothing.
+use Rattle.std.specs.Prelude.{◌≡◌, ℕ, suc, ◌+◌, ◌-◌, ◌<◌, ◌≤◌, true, cond, ◌↔◌, List, [], replicate, ℤ, ◌+ℤ◌, ◌-ℤ◌, nat_le}
+use Rattle.std.specs.List.{ContainsAt as Has, flat_map}
 use Rattle.planes.specs.declared.size.Size.{Size}
 use Rattle.recipes.specs.declared.element.Element.{Element}
 use Rattle.recipes.specs.declared.places.Place.{Place}
@@ -27,23 +28,46 @@ On size x y = (x < size.width) × (y < size.height)
 abbrev pub Near : ℕ → ℕ → ℕ → Type 0
 Near r x u = (u ≤ x + r) × (x ≤ u + r)
 
--- how far an element reads sideways, and how far up and down: the greatest |dx| and the greatest |dy|
+-- how far an element reads sideways, and how far up and down: the greatest |dx|, the greatest |dy|
 abbrev pub sideways : Element → ℕ
 sideways e = reach (λ p. p.dx) (placed e)
 
 abbrev pub upright : Element → ℕ
 upright e = reach (λ p. p.dy) (placed e)
 
--- an erosion's difference of a tone's number and the amount, a dilation's sum, as whole numbers and not held
+-- an erosion's difference of a tone's number and the amount, a dilation's sum, as whole numbers
+-- and not held
 abbrev pub moved : Operation → ℤ → ℤ → ℤ
 moved Erosion v a = v -ℤ a
 moved Dilation v a = v +ℤ a
 
--- the differences or sums at some places, each core one standing k times, each soft one once; places outside the card are not in the list
-module _ {T R : Type 0} (K : Kind T R) (value : T → ℤ) (size : Size) (s : Stage) (f : Picture T) (x y : ℕ) where
-  unfoldable pub items : List Place → List ℤ
-  items [] = []
-  items (p ∷ ps) = cond (inside K size s f x y p) (replicate (weight s.element.order p) (moved s.operation (value (read K size s f x y p)) p.amount)) [] ++ items ps
+-- the window of the pixel (x, y) of a picture f on a card of that size
+module _ {T R : Type 0} (K : Kind T R) (size : Size) (s : Stage) (f : Picture T) (x y : ℕ) where
+  -- what a place gives to a list: its number k times if it is core, once if it is soft, and
+  -- nothing outside the card
+  abbrev pub gives : (Place → ℤ) → Place → List ℤ
+  gives number p =
+      cond (inside K size s f x y p)
+      (replicate (weight s.element.order p) (number p))
+      []
+
+  -- where tones have numbers
+  module _ (value : T → ℤ) where
+    -- the number of the tone that a place reads
+    abbrev pub number_read : Place → ℤ
+    number_read p = value (read K size s f x y p)
+
+    -- the difference or sum at a place
+    abbrev pub difference : Place → ℤ
+    difference p = moved s.operation (number_read p) p.amount
+
+    -- the numbers that the window reads
+    abbrev pub numbers : List ℤ
+    numbers = flat_map (gives number_read) (placed s.element)
+
+    -- its differences or sums
+    abbrev pub differences : List ℤ
+    differences = flat_map (gives difference) (placed s.element)
 
 -- a picture of marks: yes where the tone is at least t
 abbrev pub cut : {T R : Type 0} → Kind T R → T → Picture T → Picture Mark
@@ -54,38 +78,96 @@ module _ {T R : Type 0} (K : Kind T R) where
   abbrev pub NowhereBelow : Size → Picture T → Picture T → Type 0
   NowhereBelow size f g = (x y : ℕ) → On size x y → K.code (g x y) ≤ K.code (f x y)
 
-  -- the tone at a pixel on the card is the one that a selector selects at the stage's rank from the window's bag
-  abbrev pub Picks : Type 0
-  Picks = (size : Size) (s : Stage) (f : Picture T) (x y : ℕ) → On size x y → Ranked (bag K size s f x y) (rank K size s f x y) (K.code (cleaned K size s f x y))
+  -- two pictures are the same within the element's greatest |dx| and |dy| of a pixel, on the card
+  abbrev pub SameNear : Size → Element → ℕ → ℕ → Picture T → Picture T → Type 0
+  SameNear size e x y f g =
+      (u v : ℕ) → On size u v → Near (sideways e) x u → Near (upright e) y v → f u v ≡ g u v
 
-  -- where tones are whole numbers and the amounts are within the span, an erosion is the k-th smallest of the differences f(p + y) − a(y), a dilation the k-th largest of the sums f(p − y) + a(y), held to the range. A flat element is the case of all amounts 0; k = 1 is the minimum and the maximum
+  -- the tone at a pixel on the card is the one that a selector selects at the stage's rank
+  -- from the window's bag
+  abbrev pub Picks : Type 0
+  Picks =
+      (size : Size) (s : Stage) (f : Picture T) (x y : ℕ)
+      → On size x y
+      → Ranked (bag K size s f x y) (rank K size s f x y) (K.code (cleaned K size s f x y))
+
+  -- where tones are whole numbers and the amounts are within the span, an erosion is the k-th
+  -- smallest of the differences f(p + y) − a(y), a dilation the k-th largest of the sums
+  -- f(p − y) + a(y), held to the range; k = 1 is the minimum and the maximum
   abbrev pub SoftMorphology : Type 0
-  SoftMorphology = (low high : ℤ) (value : T → ℤ) → WholeNumbers K low high value → (size : Size) (s : Stage) (f : Picture T) (x y : ℕ) → On size x y → places_within K.span (placed s.element) ≡ true → (z : ℤ) × Kth s.operation s.element.order (items K value size s f x y (placed s.element)) z × (value (cleaned K size s f x y) ≡ held low high z)
+  SoftMorphology =
+      (low high : ℤ) (value : T → ℤ)
+      → WholeNumbers K low high value
+      → (size : Size) (s : Stage) (f : Picture T) (x y : ℕ)
+      → On size x y
+      → places_within K.span (placed s.element) ≡ true
+      → (z : ℤ)
+      × Kth s.operation s.element.order (differences K size s f x y value) z
+      × (value (cleaned K size s f x y) ≡ held low high z)
 
   -- where no amount lowers or raises, the tone is one of those that the window reads
   abbrev pub KeepsVector : Type 0
-  KeepsVector = K.span ≡ 0 → (size : Size) (s : Stage) (f : Picture T) (x y : ℕ) → On size x y → (p : Place) × Has (placed s.element) p × (inside K size s f x y p ≡ true) × (cleaned K size s f x y ≡ read K size s f x y p)
+  KeepsVector =
+      K.span ≡ 0
+      → (size : Size) (s : Stage) (f : Picture T) (x y : ℕ)
+      → On size x y
+      → (p : Place)
+      × Has (placed s.element) p
+      × (inside K size s f x y p ≡ true)
+      × (cleaned K size s f x y ≡ read K size s f x y p)
 
   -- a pixel depends only on the pixels of the card within the element's greatest |dx| and |dy|
   abbrev pub Local : Type 0
-  Local = (size : Size) (s : Stage) (f g : Picture T) (x y : ℕ) → ((u v : ℕ) → On size u v → Near (sideways s.element) x u → Near (upright s.element) y v → f u v ≡ g u v) → cleaned K size s f x y ≡ cleaned K size s g x y
+  Local =
+      (size : Size) (s : Stage) (f g : Picture T) (x y : ℕ)
+      → SameNear size s.element x y f g
+      → cleaned K size s f x y ≡ cleaned K size s g x y
 
   -- a picture nowhere below another is made nowhere below it, by any stages with any amounts
   abbrev pub KeepsOrder : Type 0
-  KeepsOrder = (size : Size) (ss : List Stage) (f g : Picture T) → NowhereBelow size f g → NowhereBelow size (made K size ss f) (made K size ss g)
+  KeepsOrder =
+      (size : Size) (ss : List Stage) (f g : Picture T)
+      → NowhereBelow size f g
+      → NowhereBelow size (made K size ss f) (made K size ss g)
 
-  -- with all amounts 0, the made picture cut at any tone is what the same stages make of the cut picture
+  -- with all amounts 0, the made picture cut at any tone is what the same stages make of the cut
+  -- picture
   abbrev pub GoesWithCuts : Type 0
-  GoesWithCuts = (size : Size) (ss : List Stage) → amounts_within 0 ss ≡ true → (t : T) (f : Picture T) (x y : ℕ) → On size x y → cut K t (made K size ss f) x y ≡ made marks size ss (cut K t f) x y
+  GoesWithCuts =
+      (size : Size) (ss : List Stage)
+      → amounts_within 0 ss ≡ true
+      → (t : T) (f : Picture T) (x y : ℕ)
+      → On size x y
+      → cut K t (made K size ss f) x y ≡ made marks size ss (cut K t f) x y
 
--- what the yes of a pixel's window weigh, and what all of the window weighs
+-- a pixel of a picture of marks
 module _ (size : Size) (f : Picture Mark) (x y : ℕ) where
+  -- what the yes of its window weigh, and what all of the window weighs
   abbrev pub yes_weight : Stage → ℕ
   yes_weight s = bag marks size s f x y (mark_code Yes)
 
   abbrev pub all_weight : Stage → ℕ
   all_weight s = total marks size s f x y
 
--- a mark is eroded to yes exactly where the yes of its window weigh at least total − k + 1, and dilated to yes exactly where they weigh at least k
+  -- a stage makes yes of it
+  abbrev pub MakesYes : Stage → Type 0
+  MakesYes s = cleaned marks size s f x y ≡ Yes
+
+  -- it is eroded to yes exactly where the yes of its window weigh at least total − k + 1
+  abbrev pub ErodesByCount : Element → Type 0
+  ErodesByCount e =
+      let s = eroding e in
+      MakesYes s ↔ (suc (all_weight s - e.order) ≤ yes_weight s)
+
+  -- it is dilated to yes exactly where they weigh at least k
+  abbrev pub DilatesByCount : Element → Type 0
+  DilatesByCount e =
+      let s = dilating e in
+      MakesYes s ↔ (e.order ≤ yes_weight s)
+
+-- marks are eroded and dilated by counting
 abbrev pub MarksCount : Type 0
-MarksCount = (size : Size) (e : Element) (f : Picture Mark) (x y : ℕ) → On size x y → ((cleaned marks size (eroding e) f x y ≡ Yes) ↔ (suc (all_weight size f x y (eroding e) - e.order) ≤ yes_weight size f x y (eroding e))) × ((cleaned marks size (dilating e) f x y ≡ Yes) ↔ (e.order ≤ yes_weight size f x y (dilating e)))
+MarksCount =
+    (size : Size) (e : Element) (f : Picture Mark) (x y : ℕ)
+    → On size x y
+    → ErodesByCount size f x y e × DilatesByCount size f x y e
