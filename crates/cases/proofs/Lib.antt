@@ -1,6 +1,9 @@
 pub mod OneStep
 pub mod SelectorExamples
 pub mod StageExamples
+pub mod SideExamples
 pub mod CardExamples
+pub mod PatchExamples
+pub mod RefusalExamples
 pub mod RuleExamples
 pub mod DraftExamples

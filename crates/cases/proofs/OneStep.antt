@@ -1,5 +1,5 @@
 -- Drafts of one step: each is its step and its element's places, with whatever stands behind them in the arrays.
-use Rattle.std.proofs.Common.{◌≡◌, ℕ, ◌≤◌, true, List, [], ◌∷◌, ◌++◌, length, take, drop, replicate, Some, sym, refl, ap, ◌∙◌, subst, arith, lit≤, take-append-drop}
+use Rattle.std.proofs.Common.{◌≡◌, ℕ, ◌≤◌, true, List, [], ◌∷◌, ◌++◌, length, take, drop, replicate, ℤ, pos, nat_le, unsigned_abs, Some, sym, refl, ap, ◌∙◌, subst, arith, lit≤, take-append-drop}
 use Rattle.std.proofs.lemmas.List.{length-take-le}
 use Rattle.recipes.specs.Drafts.{letter_of, steps_of}
 use Rattle.recipes.specs.Lawful.{apart, lawful}
@@ -14,7 +14,7 @@ use Rattle.recipes.specs.declared.element.Element.{Element}
 use Rattle.recipes.specs.declared.places.Place.{Place}
 use Rattle.recipes.specs.declared.shapes.Shape.TheVariants.{Cross}
 use Rattle.cases.specs.Examples.{DraftsThere}
-use Rattle.cases.specs.Samples.{IsOneStep, DRaising, cross_places, raising_places}
+use Rattle.cases.specs.Samples.{Each, IsOneStep, DRaising, cross_places, origin_of}
 
 -- an element with its places written out
 pub record ElementParts (ps : List Place) (k : ℕ) : Type 0 where
@@ -36,6 +36,10 @@ every_element ps k P h e p q =
     let F : List Place → ℕ → ℕ → Type 0 = λ xs c o. (l : length xs ≡ 49) (i : c ≤ 49) (s : lawful (take c xs) o ≡ true) → P (record { places = xs; count = c; order = o; long = l; within = i; sound = s }) in
     let z : F whole (length ps) k = λ l i s. h (record { rest = rest; long = l; within = i; sound = s }) in
     subst (λ xs. F xs e.count e.order) m (subst (λ c. F whole c e.order) n (subst (λ o. F whole (length ps) o) (sym q) z)) e.long e.within e.sound
+
+-- a step with such an element
+abbrev pub step_of : (l : Letter) (ps : List Place) (k : ℕ) → ElementParts ps k → Step
+step_of l ps k a = record { letter = l; element = element_of ps k a }
 
 -- a draft with its step written out
 pub record DraftParts (s : Step) : Type 0 where
@@ -60,7 +64,7 @@ every_draft s P h d p q =
 -- what holds of all those holds of every draft of one step
 pub every_one_step :
     (c : ℕ) (l : Letter) (ps : List Place) (k : ℕ) (P : Draft → Type 0) → letter_of c ≡ Some l →
-    ((a : ElementParts ps k) (b : DraftParts (record { letter = l; element = element_of ps k a })) → P (draft_of (record { letter = l; element = element_of ps k a }) b)) →
+    ((a : ElementParts ps k) (b : DraftParts (step_of l ps k a)) → P (draft_of (step_of l ps k a) b)) →
     (d : Draft) → IsOneStep c ps k d → P d
 every_one_step c l ps k P e h d o =
     let same : l ≡ o.letter = (cc (sym e ∙ o.known)) in
@@ -75,17 +79,32 @@ cross_is = refl
 -- the same with the cross of order 2
 pub every_cross :
     (c : ℕ) (l : Letter) (P : Draft → Type 0) → letter_of c ≡ Some l →
-    ((a : ElementParts cross_places 2) (b : DraftParts (record { letter = l; element = element_of cross_places 2 a })) → P (draft_of (record { letter = l; element = element_of cross_places 2 a }) b)) →
+    ((a : ElementParts cross_places 2) (b : DraftParts (step_of l cross_places 2 a)) → P (draft_of (step_of l cross_places 2 a) b)) →
     (d : Draft) → IsOneStep c (standard_places Cross) 2 d → P d
 every_cross c l P e h d o = every_one_step c l cross_places 2 P e h d (subst (λ ps. IsOneStep c ps 2 d) cross_is o)
 
 -- a draft of a step
 one_step_there : (c : ℕ) (l : Letter) (ps : List Place) (k : ℕ) → letter_of c ≡ Some l → (a : ElementParts ps k) → placed (element_of ps k a) ≡ ps → (d : Draft) × IsOneStep c ps k d
 one_step_there c l ps k e a p =
-    let s : Step = record { letter = l; element = element_of ps k a } in (
+    let s : Step = step_of l ps k a in (
       draft_of s (record { rest = s ∷ s ∷ s ∷ []; long = refl; few = lit≤ tt; within = lit≤ tt }),
       record { letter = l; known = e; element = element_of ps k a; places = p; order = refl; steps = refl; declared = refl },
     )
+
+-- the origin alone, with a lawful amount
+pub origin_parts :
+    (amount : ℤ) → nat_le (unsigned_abs amount) 1024 ≡ true → ElementParts (origin_of amount) 1
+unfolding lawful apart
+origin_parts amount h =
+    record { rest = replicate 48 origin; long = refl; within = lit≤ tt; sound = rw h }
+
+-- there is such a draft, and what holds of all those written out holds of each
+pub each :
+    {ps : List Place} {k : ℕ} (c : ℕ) (l : Letter) → letter_of c ≡ Some l →
+    (a : ElementParts ps k) → placed (element_of ps k a) ≡ ps → (P : Draft → Type 0) →
+    ((x : ElementParts ps k) (b : DraftParts (step_of l ps k x)) → P (draft_of (step_of l ps k x) b)) →
+    Each c ps k P
+each {ps} {k} c l e a p P h = (one_step_there c l ps k e a p, every_one_step c l ps k P e h)
 
 cross_there : (c : ℕ) (l : Letter) → letter_of c ≡ Some l → (d : Draft) × IsOneStep c (standard_places Cross) 2 d
 unfolding lawful apart
@@ -94,8 +113,7 @@ cross_there c l e =
     (one_step_there c l cross_places 2 e (record { rest = replicate 44 origin; long = refl; within = lit≤ tt; sound = refl }) refl)
 
 raising_there : (d : Draft) × DRaising d
-unfolding lawful apart
-raising_there = one_step_there 68 letter.Dilation raising_places 1 refl (record { rest = replicate 48 origin; long = refl; within = lit≤ tt; sound = refl }) refl
+raising_there = one_step_there 68 letter.Dilation (origin_of (pos 5)) 1 refl (origin_parts (pos 5) refl) refl
 
 pub drafts_there : DraftsThere
 drafts_there =
@@ -103,5 +121,6 @@ drafts_there =
       erosion = cross_there 69 letter.Erosion refl;
       dilation = cross_there 68 letter.Dilation refl;
       opening = cross_there 79 letter.Opening refl;
+      closing = cross_there 67 letter.Closing refl;
       raising = raising_there;
     }

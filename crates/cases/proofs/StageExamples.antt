@@ -5,8 +5,8 @@ use Rattle.recipes.specs.declared.draft.Draft.{Draft}
 use Rattle.recipes.specs.declared.draft.Letter.TheVariants as letter
 use Rattle.selectors.specs.Bag.{below}
 use Rattle.stages.specs.Stages.{cleaned, made, ranked, window}
-use Rattle.cases.specs.Examples.{DilationExamples, ErosionExamples, OpeningExamples, OrderExamples, ToneExamples}
-use Rattle.cases.specs.Samples.{DCross, ECross, OCross}
+use Rattle.cases.specs.Examples.{ClosingExamples, DilationExamples, ErosionExamples, OpeningExamples, OrderExamples, ToneExamples}
+use Rattle.cases.specs.Samples.{CCross, DCross, ECross, OCross}
 use Rattle.cases.proofs.OneStep.{every_cross}
 
 pub tone_examples : ToneExamples
@@ -22,8 +22,12 @@ erosion_examples = every_cross 69 letter.Erosion ErosionExamples refl (λ a b. r
 
 pub dilation_examples : (d : Draft) → DCross d → DilationExamples d
 unfolding made cleaned ranked window below
-dilation_examples = every_cross 68 letter.Dilation DilationExamples refl (λ a b. record { centre = refl; corner = refl })
+dilation_examples = every_cross 68 letter.Dilation DilationExamples refl (λ a b. record { makes = refl })
 
 pub opening_examples : (d : Draft) → OCross d → OpeningExamples d
 unfolding made cleaned ranked window below
 opening_examples = every_cross 79 letter.Opening OpeningExamples refl (λ a b. record { makes = refl })
+
+pub closing_examples : (d : Draft) → CCross d → ClosingExamples d
+unfolding made cleaned ranked window below
+closing_examples = every_cross 67 letter.Closing ClosingExamples refl (λ a b. record { makes = refl })

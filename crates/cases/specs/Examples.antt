@@ -30,6 +30,8 @@ use Rattle.selectors.specs.declared.refusals.SelectRefusal.{SelectRefusal}
 use Rattle.selectors.specs.declared.refusals.SelectRefusal.TheVariants.{Unranked}
 use Rattle.stages.specs.Planes.{picture}
 use Rattle.stages.specs.Stages.{Picture, made, shifted}
+use Rattle.cases.specs.Patches.{PatchExamples}
+use Rattle.cases.specs.Refused.{RefusalExamples}
 use Rattle.tones.specs.Colours.{colour, colours, parts, Making}
 use Rattle.tones.specs.Greys.{greys}
 use Rattle.tones.specs.Refusals.{refusal_number as tone_number}
@@ -39,7 +41,8 @@ use Rattle.tones.specs.declared.kinds.Grey.{Grey}
 use Rattle.tones.specs.declared.kinds.Relief.{Relief}
 use Rattle.tones.specs.declared.refusals.ToneRefusal.{ToneRefusal}
 use Rattle.tones.specs.declared.refusals.ToneRefusal.TheVariants.{OutsideLimits}
-use Rattle.cases.specs.Samples.{DCross, ECross, OCross, DRaising, after, answer, card, corner, cross_places, fresh_card, nine, one, one_pixel, one_stage, tens, three, two_stages}
+use Rattle.cases.specs.Sides.{SideExamples, SkewExamples}
+use Rattle.cases.specs.Samples.{CCross, DCross, ECross, OCross, DRaising, Makes, after, answer, card, cleared, corner, cross_places, eroded, fresh_card, fresh_for_two, one, one_pixel, one_stage, opened, tens, three, two_stages}
 
 -- the weights 5:2, 7:3 and 9:1
 abbrev pub weighed : ℕ → ℕ
@@ -99,28 +102,35 @@ pub record OrderExamples : Type 0 where
   pub order_3 : order_answer (standard_places Cross) 3 ≡ Err UnlawfulOrder
   pub number : element_number UnlawfulOrder ≡ 10
 
--- E with the cross of order 2 on the card 10 20 30 / 40 50 60 / 70 80 90 makes 10 20 30 / 40 40 50 / 70 70 80
+-- E with the cross of order 2 on the card 10 20 30 / 40 50 60 / 70 80 90 makes
+-- 10 20 30 / 40 40 50 / 70 70 80
 pub record ErosionExamples (d : Draft) : Type 0 where
-  pub makes : nine (made greys three (drafted d) card) ≡ 10 ∷ 20 ∷ 30 ∷ 40 ∷ 40 ∷ 50 ∷ 70 ∷ 70 ∷ 80 ∷ []
+  pub makes : Makes (10 ∷ 20 ∷ 30 ∷ 40 ∷ 40 ∷ 50 ∷ 70 ∷ 70 ∷ 80 ∷ []) d
 
--- D makes the centre 60 and the top left pixel 20
+-- D makes 20 30 30 / 50 60 60 / 70 80 90
 pub record DilationExamples (d : Draft) : Type 0 where
-  pub centre : (made greys three (drafted d) card 1 1).level ≡ 60
-  pub corner : (made greys three (drafted d) card 0 0).level ≡ 20
+  pub makes : Makes (20 ∷ 30 ∷ 30 ∷ 50 ∷ 60 ∷ 60 ∷ 70 ∷ 80 ∷ 90 ∷ []) d
 
 -- O makes 20 30 30 / 40 50 50 / 70 70 80
 pub record OpeningExamples (d : Draft) : Type 0 where
-  pub makes : nine (made greys three (drafted d) card) ≡ 20 ∷ 30 ∷ 30 ∷ 40 ∷ 50 ∷ 50 ∷ 70 ∷ 70 ∷ 80 ∷ []
+  pub makes : Makes (20 ∷ 30 ∷ 30 ∷ 40 ∷ 50 ∷ 50 ∷ 70 ∷ 70 ∷ 80 ∷ []) d
+
+-- C makes 20 30 30 / 50 50 60 / 70 70 80
+pub record ClosingExamples (d : Draft) : Type 0 where
+  pub makes : Makes (20 ∷ 30 ∷ 30 ∷ 50 ∷ 50 ∷ 60 ∷ 70 ∷ 70 ∷ 80 ∷ []) d
 
 -- a card with E of the cross, whatever its selector holds and whatever tone is patched
 pub record OneStageExamples (d : Draft) (w : ℕ → ℕ) (t : ℕ) : Type 0 where
   -- an open with memory for one stage is not refused
   pub opens : open_refusal 256 512 18 3 3 1 ≡ None
-  -- an install is done, and a work of 9 redoes the three rows: plane 1 is then 10 20 30 / 40 40 50 / 70 70 80, and nothing is stale
+  -- an install is done, and a work of 9 redoes the three rows: plane 1 is then
+  -- 10 20 30 / 40 40 50 / 70 70 80, and nothing is stale
   pub installs : answer (fresh_card w) (Install d) ≡ Done
   pub works : answer (after (fresh_card w) (Install d)) (Work 9) ≡ Number 3
-  pub notes : (after (after (fresh_card w) (Install d)) (Work 9)).notes ≡ (one_stage w d).notes
-  pub memory : (after (after (fresh_card w) (Install d)) (Work 9)).memory ≡ tens ++ (10 ∷ 20 ∷ 30 ∷ 40 ∷ 40 ∷ 50 ∷ 70 ∷ 70 ∷ 80 ∷ [])
+  pub notes : (cleared (fresh_card w) d).notes ≡ (one_stage w d).notes
+  pub memory :
+      (cleared (fresh_card w) d).memory
+      ≡ tens ++ (10 ∷ 20 ∷ 30 ∷ 40 ∷ 40 ∷ 50 ∷ 70 ∷ 70 ∷ 80 ∷ [])
   pub clean : answer (one_stage w d) Left ≡ Number 0
   -- a patch of the top left pixel is done, and leaves 2 rows
   pub patch : answer (one_stage w d) (corner t) ≡ Done
@@ -136,6 +146,15 @@ pub record OneStageExamples (d : Draft) (w : ℕ → ℕ) (t : ℕ) : Type 0 whe
 
 -- a card with O of the cross
 pub record TwoStageExamples (d : Draft) (w : ℕ → ℕ) (t : ℕ) : Type 0 where
+  -- an open with memory for two stages is not refused
+  pub opens : open_refusal 256 512 27 3 3 2 ≡ None
+  -- an install is done, and a work of 9 redoes three rows of each stage: plane 1 is then what E
+  -- makes, plane 2 what O makes, and nothing is stale
+  pub installs : answer (fresh_for_two w) (Install d) ≡ Done
+  pub works : answer (after (fresh_for_two w) (Install d)) (Work 9) ≡ Number 6
+  pub notes : (cleared (fresh_for_two w) d).notes ≡ (two_stages w d).notes
+  pub planes : (cleared (fresh_for_two w) d).memory ≡ tens ++ (eroded ++ opened)
+  pub clean : answer (two_stages w d) Left ≡ Number 0
   -- a patch of the top left pixel leaves 5 rows: 2 of stage 1 and 3 of stage 2
   pub left : answer (after (two_stages w d) (corner t)) Left ≡ Number 5
   pub due : answer (after (two_stages w d) (corner t)) Due ≡ Next (Some (1, 0))
@@ -144,14 +163,18 @@ pub record TwoStageExamples (d : Draft) (w : ℕ → ℕ) (t : ℕ) : Type 0 whe
   pub still_left : answer (after (after (two_stages w d) (corner t)) (Work 0)) Left ≡ Number 5
   -- a work of 2 redoes the rows of stage 1, and then stage 2 is due
   pub some : answer (after (two_stages w d) (corner t)) (Work 2) ≡ Number 2
-  pub due_next : answer (after (after (two_stages w d) (corner t)) (Work 2)) Due ≡ Next (Some (2, 0))
+  pub due_next :
+      answer (after (after (two_stages w d) (corner t)) (Work 2)) Due ≡ Next (Some (2, 0))
   -- a work of 9 redoes 5, and then nothing is left or due
   pub enough : answer (after (two_stages w d) (corner t)) (Work 9) ≡ Number 5
   pub none_left : answer (after (after (two_stages w d) (corner t)) (Work 9)) Left ≡ Number 0
   pub none_due : answer (after (after (two_stages w d) (corner t)) (Work 9)) Due ≡ Next None
-  -- where the tone is 100, plane 1 is then 40 20 30 / 40 40 50 / 70 70 80, and plane 2 is 40 40 30 / 40 50 50 / 70 70 80
+  -- where the tone is 100, plane 1 is then 40 20 30 / 40 40 50 / 70 70 80, and plane 2 is
+  -- 40 40 30 / 40 50 50 / 70 70 80
   pub memory : (after (after (two_stages w d) (corner 100)) (Work 9)).memory ≡
-      100 ∷ 20 ∷ 30 ∷ 40 ∷ 50 ∷ 60 ∷ 70 ∷ 80 ∷ 90 ∷ 40 ∷ 20 ∷ 30 ∷ 40 ∷ 40 ∷ 50 ∷ 70 ∷ 70 ∷ 80 ∷ 40 ∷ 40 ∷ 30 ∷ 40 ∷ 50 ∷ 50 ∷ 70 ∷ 70 ∷ 80 ∷ []
+      (100 ∷ 20 ∷ 30 ∷ 40 ∷ 50 ∷ 60 ∷ 70 ∷ 80 ∷ 90 ∷ [])
+      ++ (40 ∷ 20 ∷ 30 ∷ 40 ∷ 40 ∷ 50 ∷ 70 ∷ 70 ∷ 80 ∷ [])
+      ++ (40 ∷ 40 ∷ 30 ∷ 40 ∷ 50 ∷ 50 ∷ 70 ∷ 70 ∷ 80 ∷ [])
 
 -- the history of an install, a work of 9 that redid n rows, and a patch of the top left pixel with the tone t
 abbrev pub history : Draft → ℕ → ℕ → History ℕ
@@ -217,6 +240,7 @@ pub record DraftsThere : Type 0 where
   pub erosion : (d : Draft) × ECross d
   pub dilation : (d : Draft) × DCross d
   pub opening : (d : Draft) × OCross d
+  pub closing : (d : Draft) × CCross d
   pub raising : (d : Draft) × DRaising d
 
 pub record WorkedExamples : Type 0 where
@@ -227,10 +251,15 @@ pub record WorkedExamples : Type 0 where
   pub erosions : (d : Draft) → ECross d → ErosionExamples d
   pub dilations : (d : Draft) → DCross d → DilationExamples d
   pub openings : (d : Draft) → OCross d → OpeningExamples d
+  pub closings : (d : Draft) → CCross d → ClosingExamples d
+  pub sides : SideExamples
   pub one_stage_cards : (d : Draft) → ECross d → (w : ℕ → ℕ) (t : ℕ) → OneStageExamples d w t
   pub one_stage_rules : (d : Draft) → ECross d → (t : ℕ) → OneStageRules d t
   pub two_stage_cards : (d : Draft) → OCross d → (w : ℕ → ℕ) (t : ℕ) → TwoStageExamples d w t
   pub two_stage_rules : (d : Draft) → OCross d → (t : ℕ) → TwoStageRules d t
+  pub skew_cards : SkewExamples
+  pub patches : (w : ℕ → ℕ) → PatchExamples w
+  pub refusals : (w : ℕ → ℕ) → RefusalExamples w
   pub drafts : DraftExamples
   pub residues : (d : Draft) → DRaising d → (w : ℕ → ℕ) → ResidueExamples d w
   pub drafts_there : DraftsThere

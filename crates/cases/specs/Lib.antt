@@ -1,2 +1,5 @@
 pub mod Samples
+pub mod Sides
+pub mod Patches
+pub mod Refused
 pub mod Examples
