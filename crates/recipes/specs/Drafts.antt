@@ -1,12 +1,10 @@
 -- What the steps of a draft are, and what adding one answers and leaves. Assumes nothing.
-use Rattle.std.specs.Prelude.{ℕ, Bool, cond, ◌||◌, List, [], ◌∷◌, ◌++◌, length, take, Some, None, Ok, Err, Option, Result, ◌==◌}
+use Rattle.std.specs.Prelude.{ℕ, Bool, cond, if◌then◌else◌, ◌||◌, List, [], ◌∷◌, ◌++◌, length, take, Some, None, Option, ◌==◌}
 use Rattle.recipes.specs.declared.draft.Draft.{Draft}
 use Rattle.recipes.specs.declared.draft.Letter.{Letter}
 use Rattle.recipes.specs.declared.draft.Letter.TheVariants.{Erosion, Dilation, Opening, Closing}
 use Rattle.recipes.specs.declared.draft.Step.{Step}
 use Rattle.recipes.specs.declared.element.Element.{Element}
-use Rattle.recipes.specs.declared.refusals.DraftRefusal.{DraftRefusal}
-use Rattle.recipes.specs.declared.refusals.DraftRefusal.TheVariants.{UnknownLetter, Full}
 
 -- the steps of a draft
 abbrev pub steps_of : Draft → List Step
@@ -20,10 +18,10 @@ letter_of c = cond (c == 69) (Some Erosion) (cond (c == 68) (Some Dilation) (con
 abbrev pub full : List Step → ℕ → Bool
 full ss declared = length ss == 4 || length ss == declared
 
--- a step is refused where its letter is unknown, then where the draft is full
-abbrev pub step_answer : Option Letter → List Step → ℕ → Result (Unit {0}) DraftRefusal
-step_answer None ss declared = Err UnknownLetter
-step_answer (Some l) ss declared = cond (full ss declared) (Err Full) (Ok tt)
+-- a step is refused where its letter is unknown (11), then where the draft is full (12)
+abbrev pub step_refusal : Option Letter → List Step → ℕ → Option ℕ
+step_refusal None ss declared = Some 11
+step_refusal (Some l) ss declared = if full ss declared then Some 12 else None
 
 -- a step that is not refused comes last
 abbrev pub step_after : Option Letter → Element → List Step → ℕ → List Step

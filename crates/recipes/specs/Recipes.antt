@@ -12,10 +12,10 @@ use Rattle.recipes.specs.declared.recipe.Operation.TheVariants.{Erosion, Dilatio
 use Rattle.recipes.specs.declared.recipe.Recipe.{Recipe}
 use Rattle.recipes.specs.declared.recipe.Stage.{Stage}
 use Rattle.recipes.specs.declared.refusals.DraftRefusal.{DraftRefusal}
-use Rattle.recipes.specs.declared.refusals.DraftRefusal.TheVariants.{UnknownLetter, Full, TooFew}
 use Rattle.recipes.specs.Drafts.{steps_of}
 use Rattle.std.specs.List.{list_all}
 use Rattle.recipes.specs.Placed.{placed}
+use Rattle.recipes.specs.Refusals.{draft_number}
 
 -- the stages of a recipe
 abbrev pub staged : Recipe → List Stage
@@ -49,12 +49,10 @@ stages_of_step s = stages_by s.letter s.element
 abbrev pub stages_of : List Step → List Stage
 stages_of ss = flat_map stages_of_step ss
 
--- a draft makes the recipe of its steps unless it has fewer than declared
+-- a draft makes the recipe of its steps, or is refused where it has fewer than declared (19)
 abbrev pub Finished : Draft → Result Recipe DraftRefusal → Type 0
 Finished d (Ok r) = (d.declared ≤ length (steps_of d)) × (staged r ≡ stages_of (steps_of d))
-Finished d (Err TooFew) = length (steps_of d) < d.declared
-Finished d (Err UnknownLetter) = ⊥
-Finished d (Err Full) = ⊥
+Finished d (Err e) = (length (steps_of d) < d.declared) × (draft_number e ≡ 19)
 
 -- every amount of some places is from −span to span
 abbrev pub places_within : ℕ → List Place → Bool

@@ -1,5 +1,5 @@
--- The number of each refusal. Assumes nothing.
-use Rattle.std.specs.Prelude.{ℕ}
+-- The number of each refusal, and of the one that a call answers. Assumes nothing.
+use Rattle.std.specs.Prelude.{ℕ, Ok, Err, Some, None, Option, Result}
 use Rattle.recipes.specs.declared.refusals.DraftRefusal.{DraftRefusal}
 use Rattle.recipes.specs.declared.refusals.DraftRefusal.TheVariants.{UnknownLetter, Full, TooFew}
 use Rattle.recipes.specs.declared.refusals.ElementRefusal.{ElementRefusal}
@@ -18,3 +18,8 @@ abbrev pub draft_number : DraftRefusal → ℕ
 draft_number UnknownLetter = 11
 draft_number Full = 12
 draft_number TooFew = 19
+
+-- the number with which a call is refused, if it is
+abbrev pub refused_with : {A E : Type 0} → (E → ℕ) → Result A E → Option ℕ
+refused_with number (Ok _) = None
+refused_with number (Err e) = Some (number e)

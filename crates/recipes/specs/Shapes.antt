@@ -1,22 +1,22 @@
 -- The standard shapes. Assumes nothing.
-use Rattle.std.specs.Prelude.{◌≡◌, ℕ, ◌+◌, Bool, true, cond, not, ◌&&◌, List, [], ◌∷◌, map, ℤ, pos, negsuc, Some, None, Ok, Err, filter, Option, Result, ◌==◌, nat_le, unsigned_abs}
+use Rattle.std.specs.Prelude.{◌≡◌, ℕ, ◌+◌, Bool, true, cond, not, ◌&&◌, List, [], ◌∷◌, map, ℤ, pos, negsuc, Some, None, filter, MatchResult, Option, Result, ◌==◌, nat_le, unsigned_abs}
 use Rattle.std.specs.List.{flat_map, ContainsAt as Has}
-use Rattle.std.specs.Option.{ok_or}
 use Rattle.recipes.specs.declared.places.Part.TheVariants.{Core, Soft}
 use Rattle.recipes.specs.declared.places.Place.{Place}
 use Rattle.recipes.specs.declared.refusals.ElementRefusal.{ElementRefusal}
-use Rattle.recipes.specs.declared.refusals.ElementRefusal.TheVariants.{UnknownShape}
 use Rattle.recipes.specs.declared.shapes.Shape.{Shape}
 use Rattle.recipes.specs.declared.shapes.Shape.TheVariants.{Cross, Square3, Octagon5, Square7}
 use Rattle.recipes.specs.Places.{same}
+use Rattle.recipes.specs.Refusals.{element_number}
 
 -- the shapes by their numbers
 abbrev pub shape_of : ℕ → Option Shape
 shape_of i = cond (i == 0) (Some Cross) (cond (i == 1) (Some Square3) (cond (i == 2) (Some Octagon5) (cond (i == 3) (Some Square7) None)))
 
--- the shape of a number, or the refusal of a number that no shape has
+-- the shape of a number, or the refusal of a number that no shape has (9)
 abbrev pub Numbered : ℕ → Result Shape ElementRefusal → Type 0
-Numbered i r = r ≡ ok_or (shape_of i) UnknownShape
+Numbered i r =
+    MatchResult r (λ s. shape_of i ≡ Some s) (λ e. (shape_of i ≡ None) × (element_number e ≡ 9))
 
 -- the offsets that lie in a shape
 abbrev pub in_shape : Shape → ℤ → ℤ → Bool
@@ -49,10 +49,10 @@ Belongs s p = (in_shape s p.dx p.dy ≡ true) × (p ≡ standard_place p.dx p.dy
 abbrev pub Members : Shape → List Place → Type 0
 Members s ps = (p : Place) → (Has ps p → Belongs s p) × (Belongs s p → Has ps p)
 
--- a number that no shape has is refused
-abbrev pub standard_answer : Option Shape → Result (Unit {0}) ElementRefusal
-standard_answer None = Err UnknownShape
-standard_answer (Some s) = Ok tt
+-- a number that no shape has is refused (9)
+abbrev pub standard_refusal : Option Shape → Option ℕ
+standard_refusal None = Some 9
+standard_refusal (Some s) = None
 
 -- a shape's places stand for those before it, which stay where the number is refused
 abbrev pub standard_after : Option Shape → List Place → List Place

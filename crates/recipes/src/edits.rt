@@ -1,9 +1,10 @@
 //! Making and changing an element.
 
-ghost use Rattle.recipes.specs.Edits.{place_answer, amount_answer, order_answer};
+ghost use Rattle.recipes.specs.Edits.{place_refusal, amount_refusal, order_refusal};
 ghost use Rattle.recipes.specs.Lawful.{lawful_order};
 ghost use Rattle.recipes.specs.Placed.{placed};
 ghost use Rattle.recipes.specs.Places.{origin, stands_at, taken, in_limits, limited, soft, amended};
+ghost use Rattle.recipes.specs.Refusals.{element_number, refused_with};
 ghost use Rattle.std.specs.Prelude.{◌≡◌, true, false, [], ◌∷◌, ◌++◌, map, position, is_ok, if◌then◌else◌, count_by, OnErr};
 
 use crate::element::Element;
@@ -32,8 +33,12 @@ impl Element {
 
     /// Adds a place. Refused outside the limits (6), then where a place stands already (7).
     pub fn place(&mut self, dx: i32, dy: i32, part: Part, amount: i32) -> Result<(), ElementRefusal>
-        ensures answer { result ≡ place_answer (placed self.old) dx dy amount }
-        ensures places { placed self.new ≡ (if is_ok result then (placed self.old ++ record { dx = dx; dy = dy; part = part; amount = amount } ∷ []) else placed self.old) }
+        ensures answer { refused_with element_number result
+            ≡ place_refusal (placed self.old) dx dy amount }
+        ensures places { placed self.new
+            ≡ (if is_ok result
+            then placed self.old ++ record { dx = dx; dy = dy; part = part; amount = amount } ∷ []
+            else placed self.old) }
         ensures order { self.new.order ≡ self.old.order }
         ensures kept { OnErr result (self.new ≡ self.old) }
     {
@@ -54,8 +59,12 @@ impl Element {
 
     /// Sets the amount of the place at these offsets. Refused outside the limits (6), then where no place stands (8).
     pub fn amount(&mut self, dx: i32, dy: i32, amount: i32) -> Result<(), ElementRefusal>
-        ensures answer { result ≡ amount_answer (placed self.old) dx dy amount }
-        ensures places { placed self.new ≡ (if is_ok result then map (amended dx dy amount) (placed self.old) else placed self.old) }
+        ensures answer { refused_with element_number result
+            ≡ amount_refusal (placed self.old) dx dy amount }
+        ensures places { placed self.new
+            ≡ (if is_ok result
+            then map (amended dx dy amount) (placed self.old)
+            else placed self.old) }
         ensures order { self.new.order ≡ self.old.order }
         ensures kept { OnErr result (self.new ≡ self.old) }
     {
@@ -69,7 +78,7 @@ impl Element {
 
     /// Sets the order index. Refused where it is not lawful (10).
     pub fn order(&mut self, k: u32) -> Result<(), ElementRefusal>
-        ensures answer { result ≡ order_answer (placed self.old) k }
+        ensures answer { refused_with element_number result ≡ order_refusal (placed self.old) k }
         ensures places { placed self.new ≡ placed self.old }
         ensures order { self.new.order ≡ (if is_ok result then k else self.old.order) }
         ensures kept { OnErr result (self.new ≡ self.old) }

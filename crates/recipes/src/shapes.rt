@@ -1,7 +1,8 @@
 //! The four standard shapes.
 
 ghost use Rattle.recipes.specs.Placed.{placed};
-ghost use Rattle.recipes.specs.Shapes.{in_shape, shape_of, standard_place, standard_places, standard_answer, standard_after, Members};
+ghost use Rattle.recipes.specs.Refusals.{element_number, refused_with};
+ghost use Rattle.recipes.specs.Shapes.{in_shape, shape_of, standard_place, standard_places, standard_refusal, standard_after, Members};
 ghost use Rattle.std.specs.Prelude.{◌≡◌, ◌/◌, ◌%◌, ◌<◌, pos, ◌-ℤ◌, is_ok, if◌then◌else◌, Some, OnErr};
 
 use crate::edits::ORIGIN;
@@ -59,7 +60,7 @@ impl Shape {
 impl Element {
     /// Overwrites the element by the standard shape of a number, with amounts 0 and order 1. Refused where the number is above 3 (9).
     pub fn standard(&mut self, i: u32) -> Result<(), ElementRefusal>
-        ensures answer { result ≡ standard_answer (shape_of i) }
+        ensures answer { refused_with element_number result ≡ standard_refusal (shape_of i) }
         ensures places { placed self.new ≡ standard_after (shape_of i) (placed self.old) }
         ensures members { (s : Shape) → shape_of i ≡ Some s → Members s (placed self.new) }
         ensures order { self.new.order ≡ (if is_ok result then 1 else self.old.order) }

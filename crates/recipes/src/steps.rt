@@ -1,6 +1,7 @@
 //! Making a draft.
 
-ghost use Rattle.recipes.specs.Drafts.{steps_of, letter_of, step_answer, step_after};
+ghost use Rattle.recipes.specs.Drafts.{steps_of, letter_of, step_refusal, step_after};
+ghost use Rattle.recipes.specs.Refusals.{draft_number, refused_with};
 ghost use Rattle.recipes.specs.declared.draft.Letter.{Letter};
 ghost use Rattle.std.specs.Prelude.{◌≡◌, [], Some, OnErr};
 
@@ -26,8 +27,10 @@ impl Draft {
 
     /// Adds a step. Refused where the letter is none of E, D, O and C (11), then where the draft has 4 steps or as many as declared (12).
     pub fn step(&mut self, letter: char, element: &Element) -> Result<(), DraftRefusal>
-        ensures answer { result ≡ step_answer (letter_of letter) (steps_of self.old) self.old.declared }
-        ensures steps { steps_of self.new ≡ step_after (letter_of letter) element.now (steps_of self.old) self.old.declared }
+        ensures answer { refused_with draft_number result
+            ≡ step_refusal (letter_of letter) (steps_of self.old) self.old.declared }
+        ensures steps { steps_of self.new
+            ≡ step_after (letter_of letter) element.now (steps_of self.old) self.old.declared }
         ensures declared { self.new.declared ≡ self.old.declared }
         ensures kept { OnErr result (self.new ≡ self.old) }
     {
@@ -43,8 +46,10 @@ impl Draft {
 
     /// Adds a step of a known letter.
     fn push(&mut self, letter: Letter, element: &Element) -> Result<(), DraftRefusal>
-        ensures answer { result ≡ step_answer (Some letter) (steps_of self.old) self.old.declared }
-        ensures steps { steps_of self.new ≡ step_after (Some letter) element.now (steps_of self.old) self.old.declared }
+        ensures answer { refused_with draft_number result
+            ≡ step_refusal (Some letter) (steps_of self.old) self.old.declared }
+        ensures steps { steps_of self.new
+            ≡ step_after (Some letter) element.now (steps_of self.old) self.old.declared }
         ensures declared { self.new.declared ≡ self.old.declared }
         ensures kept { OnErr result (self.new ≡ self.old) }
     {
