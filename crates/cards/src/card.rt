@@ -34,6 +34,7 @@ impl<T: Tone, S: Selector> Card<T, S> {
     ghost use Rattle.calls.specs.Opening.{fresh, open_refusal};
     ghost use Rattle.calls.specs.Outcomes.{Outcome, done_unless, kept_if};
     ghost use Rattle.calls.specs.Promise.{Promise};
+    ghost use Rattle.filters.specs.Laws.{SoftMorphologyLaws};
     ghost use Rattle.planes.specs.declared.size.Size.{Size as PlaneSize};
     ghost use Rattle.cards.specs.Meanings.{InOrder, StaysInOrder, notes, recipe_of, selector_of, state_of};
 
@@ -52,7 +53,7 @@ impl<T: Tone, S: Selector> Card<T, S> {
 
     /// Gives the card a size: an empty recipe, nothing stale. A card may be opened again: it starts over. Refused where the size or the number of stages is outside its limits (13), with memory of another length (14), and where the selector's range is smaller than the number of tones (15).
     ///
-    /// What the card promises of every run of calls from there on is the clause `promise`.
+    /// What the card promises of every run of calls from there on is the clause `promise`; what the stages of every recipe make keeps the laws of soft morphology (`laws`).
     pub fn open(
         &mut self,
         memory: &[T::Row],
@@ -69,6 +70,7 @@ impl<T: Tone, S: Selector> Card<T, S> {
         ensures selector { selector_of self.new ≡ selector_of self.old }
         ensures kept { OnErr result (self.new ≡ self.old) }
         ensures in_order { StaysInOrder T.kind S.range S.ordered self.old self.new }
+        ensures laws { SoftMorphologyLaws T.kind }
         ensures promise { let size : PlaneSize = record { width = width; height = height } in
             OnOk result (Promise T.kind size stages (state_of S.weight self.new memory.now)) }
     {

@@ -3,6 +3,7 @@ use Rattle.planes.specs.declared.size.Size.{Size}
 use Rattle.planes.specs.Sizes.{Limits}
 use Rattle.calls.specs.Calls.{room}
 use Rattle.calls.specs.Opening.{fresh}
+use Rattle.filters.proofs.Laws.{laws_hold}
 use Rattle.calls.proofs.Promises.{keeps_promise}
 use Rattle.sheets.specs.Meanings.{notes_of}
 use Rattle.cards.proofs.card.Card.open.Goals as goal
@@ -18,3 +19,18 @@ returns-clause-promise g c =
       limits = subst Limits sized c.in_ok-frame.frame.within;
       memory = long ∙ ap room made;
     })
+
+pub returns-in_err-frame-clause-laws : goal.returns-in_err-frame-clause-laws
+returns-in_err-frame-clause-laws g c = laws_hold g.T.Tone.kind g.met.T.Tone.lawful
+
+pub returns-then-not-contains-clause-laws : goal.returns-then-not-contains-clause-laws
+returns-then-not-contains-clause-laws g c = laws_hold g.T.Tone.kind g.met.T.Tone.lawful
+
+pub returns-in_err-fits-clause-laws : goal.returns-in_err-fits-clause-laws
+returns-in_err-fits-clause-laws g c = laws_hold g.T.Tone.kind g.met.T.Tone.lawful
+
+pub returns-then-range-count-clause-laws : goal.returns-then-range-count-clause-laws
+returns-then-range-count-clause-laws g c = laws_hold g.T.Tone.kind g.met.T.Tone.lawful
+
+pub returns-clause-laws : goal.returns-clause-laws
+returns-clause-laws g c = laws_hold g.T.Tone.kind g.met.T.Tone.lawful
