@@ -6,6 +6,7 @@ pub mod Greys
 pub mod Reliefs
 pub mod Colours
 pub mod Ranking
+pub mod MarkLaws
 pub mod ColourLaws
 pub mod GreyLaws
 pub mod Spans

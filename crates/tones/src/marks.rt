@@ -1,7 +1,7 @@
 // Marks: no has code 0, yes code 1; no amount lowers one.
 ghost use Rattle.tones.specs.Marks.{mark, marks};
 ghost use Rattle.std.specs.Prelude.{◌≡◌};
-ghost use Rattle.std.proofs.Common.{rules};
+ghost use Rattle.tones.specs.MarkLaws.{mark_laws};
 
 use crate::interface::Tone;
 use crate::kinds::Mark;
@@ -20,7 +20,7 @@ impl Tone for Mark {
 
     ghost kind = { marks };
 
-    ghost lawful = { Prim.search rules };
+    ghost lawful = { mark_laws };
 
     fn count() -> u32 {
         2
