@@ -1,11 +1,13 @@
 -- The laws of colours.
-use Rattle.std.specs.Prelude.{◌≡◌, true, min, refl}
+use Rattle.std.specs.Prelude.{◌≡◌, true, min, pos, refl}
 use Rattle.std.proofs.Common.{◌∙◌, ap, arith}
 use denote.Struct.Record.{values_one}
 use Rattle.std.proofs.lemmas.Bool.Decides.{nat_tests}
+use Rattle.tones.specs.Codes.{whole_by_codes}
 use Rattle.tones.specs.Kind.{Laws}
 use Rattle.tones.specs.Spans.{outside_top}
-use Rattle.tones.specs.Colours.{colour, colours, lawful, parts, top}
+use Rattle.tones.specs.Whole.{WholeNumbers}
+use Rattle.tones.specs.Colours.{colour, colour_value, colours, lawful, parts, top}
 use Rattle.tones.specs.declared.kinds.Colour.{Colour}
 use Rattle.tones.specs.declared.kinds.ColourRow.{ColourRow}
 use Rattle.tones.specs.contracts.kinds.Colour.{struct, the_propositions}
@@ -43,3 +45,6 @@ colour_laws = record {
   laid = λ t. same_colour (colours.counted (colours.row t)) t (grind (arith, nat_tests, t.within));
   outside = outside_top colours.row lawful read top read_back;
 }
+
+pub colour_whole : WholeNumbers colours (pos 0) (pos 23592959) colour_value
+colour_whole = whole_by_codes colours colour_laws refl

@@ -1,5 +1,6 @@
 pub mod Kind
 pub mod Whole
+pub mod Codes
 pub mod Refusals
 pub mod Marks
 pub mod Greys

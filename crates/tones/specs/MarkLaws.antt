@@ -1,9 +1,11 @@
 -- The laws of marks.
-use Rattle.std.specs.Prelude.{◌≡◌, ℕ, zero, suc, ◌<◌, Bool, true, false, refl}
+use Rattle.std.specs.Prelude.{◌≡◌, ℕ, zero, suc, ◌<◌, Bool, true, false, pos, refl}
 use Rattle.std.proofs.Common.{ap, arith}
 use Rattle.std.proofs.lemmas.Bool.{le-leb}
+use Rattle.tones.specs.Codes.{whole_by_codes}
 use Rattle.tones.specs.Kind.{Laws}
-use Rattle.tones.specs.Marks.{mark, marks}
+use Rattle.tones.specs.Whole.{WholeNumbers}
+use Rattle.tones.specs.Marks.{mark, mark_value, marks}
 use Rattle.tones.specs.declared.kinds.Mark.{Mark}
 use Rattle.tones.specs.declared.kinds.Mark.TheVariants.{No, Yes}
 
@@ -44,3 +46,6 @@ mark_laws = record {
   laid = row_back;
   outside = λ b none. absurd (none (mark b) (every_row b));
 }
+
+pub mark_whole : WholeNumbers marks (pos 0) (pos 1) mark_value
+mark_whole = whole_by_codes marks mark_laws refl
