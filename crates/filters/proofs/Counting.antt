@@ -1,6 +1,6 @@
 -- Marks are eroded and dilated by counting. Assumes nothing.
-use Rattle.std.proofs.Common.{◌≡◌, ℕ, zero, suc, ◌+◌, ◌<◌, ◌≤◌, leb, ◌↔◌, refl, ap, ⊎_elim, arith}
-use Rattle.std.proofs.lemmas.Bool.{cases_lt, le-leb}
+use Rattle.std.proofs.Common.{◌≡◌, ℕ, ◌+◌, ◌<◌, ◌≤◌, ◌↔◌, refl, ap, ⊎_elim, arith}
+use Rattle.std.proofs.lemmas.Bool.{cases_lt}
 use Rattle.planes.specs.declared.size.Size.{Size}
 use Rattle.recipes.specs.declared.recipe.Stage.{Stage}
 use Rattle.recipes.specs.Recipes.{eroding, dilating}
@@ -10,42 +10,10 @@ use Rattle.stages.specs.Stages.{Picture, bag, rank, cleaned}
 use Rattle.stages.proofs.Cleaning.{total_least}
 use Rattle.tones.specs.declared.kinds.Mark.{Mark}
 use Rattle.tones.specs.declared.kinds.Mark.TheVariants.{No, Yes}
-use Rattle.tones.specs.Kind.{Laws}
-use Rattle.tones.specs.Marks.{marks, mark, mark_code}
+use Rattle.tones.specs.MarkLaws.{mark_laws}
+use Rattle.tones.specs.Marks.{marks, mark_code}
 use Rattle.filters.specs.Morphology.{On, MarksCount, yes_weight, all_weight}
 use Rattle.filters.proofs.Windows.{reaches, falls_short}
-
-code_small : (m : Mark) → mark_code m < 2
-code_small No = omega arith
-code_small Yes = omega arith
-
-code_back : (m : Mark) → mark (leb 1 (mark_code m)) ≡ m
-code_back No = refl
-code_back Yes = refl
-
-code_there : (c : ℕ) → c < 2 → mark_code (mark (leb 1 c)) ≡ c
-code_there zero h = refl
-code_there (suc zero) h = refl
-code_there (suc (suc c)) h = absurd (omega arith)
-
-pub marks_lawful : Laws marks
-marks_lawful = record {
-  some = omega arith;
-  count_fits = omega arith;
-  span_fits = omega arith;
-  within = code_small;
-  back = code_back;
-  there = code_there;
-  top = λ c h. let l : 1 ≤ c = omega arith in ap mark (le-leb 1 c l);
-  still = λ t. refl;
-  beyond = λ t a h. refl;
-  keeps = λ t u a h. h;
-  laid = λ t. code_row t;
-}
-  where
-    code_row : (m : Mark) → marks.counted (marks.row m) ≡ m
-    code_row No = refl
-    code_row Yes = refl
 
 pub is_yes : (m : Mark) → 1 ≤ mark_code m → m ≡ Yes
 is_yes No h = absurd (omega arith)
@@ -58,8 +26,8 @@ is_no Yes h = absurd (omega arith)
 -- yes exactly where what weighs less than yes falls short of the rank
 yes_exactly : (size : Size) (s : Stage) (f : Picture Mark) (x y : ℕ) → On size x y → (cleaned marks size s f x y ≡ Yes) ↔ (below (bag marks size s f x y) 1 < rank marks size s f x y)
 yes_exactly size s f x y on = (
-  λ e. ⊎_elim (λ l. l) (λ (l : rank marks size s f x y ≤ below (bag marks size s f x y) 1). absurd (omega (arith, falls_short marks size s f x y marks_lawful on 1 l, ap mark_code e))) (cases_lt (below (bag marks size s f x y) 1) (rank marks size s f x y)),
-  λ l. is_yes (cleaned marks size s f x y) (reaches marks size s f x y marks_lawful on 1 l),
+  λ e. ⊎_elim (λ l. l) (λ (l : rank marks size s f x y ≤ below (bag marks size s f x y) 1). absurd (omega (arith, falls_short marks size s f x y mark_laws on 1 l, ap mark_code e))) (cases_lt (below (bag marks size s f x y) 1) (rank marks size s f x y)),
+  λ l. is_yes (cleaned marks size s f x y) (reaches marks size s f x y mark_laws on 1 l),
 )
 
 pub marks_count : MarksCount
@@ -81,7 +49,7 @@ marks_count size e f x y on = (
     parts_dilated = below_suc (bag marks size (dilating e) f x y) 1
 
     least_eroded : e.order ≤ all_weight size f x y (eroding e)
-    least_eroded = total_least marks marks_lawful size (eroding e) f x y on.0 on.1
+    least_eroded = total_least marks mark_laws size (eroding e) f x y on.0 on.1
 
     least_dilated : e.order ≤ all_weight size f x y (dilating e)
-    least_dilated = total_least marks marks_lawful size (dilating e) f x y on.0 on.1
+    least_dilated = total_least marks mark_laws size (dilating e) f x y on.0 on.1

@@ -15,10 +15,11 @@ use Rattle.selectors.specs.Bag.{below}
 use Rattle.stages.specs.Stages.{Picture, target, rank_of, inside, read, bag, rank, cleaned, made, shifted}
 use Rattle.tones.specs.declared.kinds.Mark.{Mark}
 use Rattle.tones.specs.Kind.{Kind, Laws}
+use Rattle.tones.specs.MarkLaws.{mark_laws}
 use Rattle.tones.specs.Marks.{marks, mark, mark_code}
 use Rattle.filters.specs.Morphology.{On, cut, GoesWithCuts}
 use Rattle.filters.proofs.Masses.{mass_same}
-use Rattle.filters.proofs.Counting.{marks_lawful, is_yes, is_no}
+use Rattle.filters.proofs.Counting.{is_yes, is_no}
 use Rattle.filters.proofs.Windows.{inside_on, under, weighs, below_bag, total_is, reaches, falls_short}
 
 -- the amounts of places within a span
@@ -60,10 +61,10 @@ module _ {T R : Type 0} (K : Kind T R) (law : Laws K) (size : Size) (t : T) wher
   stage_cut s zeros f g same x y on = ⊎_elim
       (λ (l : below (bag K size s f x y) (K.code t) < rank K size s f x y).
       ap mark (le-leb (K.code t) (K.code (cleaned K size s f x y)) (reaches K size s f x y law on (K.code t) l))
-      ∙ sym (is_yes (cleaned marks size s g x y) (reaches marks size s g x y marks_lawful on 1 (omega (arith, less, ranks)))))
+      ∙ sym (is_yes (cleaned marks size s g x y) (reaches marks size s g x y mark_laws on 1 (omega (arith, less, ranks)))))
       (λ (l : rank K size s f x y ≤ below (bag K size s f x y) (K.code t)).
       ap mark (lt-leb (K.code t) (K.code (cleaned K size s f x y)) (falls_short K size s f x y law on (K.code t) l))
-      ∙ sym (is_no (cleaned marks size s g x y) (falls_short marks size s g x y marks_lawful on 1 (omega (arith, less, ranks)))))
+      ∙ sym (is_no (cleaned marks size s g x y) (falls_short marks size s g x y mark_laws on 1 (omega (arith, less, ranks)))))
       (cases_lt (below (bag K size s f x y) (K.code t)) (rank K size s f x y))
     where
       ps : List Place
@@ -80,7 +81,7 @@ module _ {T R : Type 0} (K : Kind T R) (law : Laws K) (size : Size) (t : T) wher
       less = below_bag marks size s g x y 1 ∙ (mass_same (weighs K size s f x y) (under marks size s g x y 1) (under K size s f x y (K.code t)) ps (All-weaker (λ p. nat_abs p.amount ≤ 0) _ alike ps (amounts 0 ps zeros)) ∙ sym (below_bag K size s f x y (K.code t)))
 
       ranks : rank marks size s g x y ≡ rank K size s f x y
-      ranks = ap (rank_of s.operation s.element.order) (total_is marks size s g x y marks_lawful ∙ sym (total_is K size s f x y law))
+      ranks = ap (rank_of s.operation s.element.order) (total_is marks size s g x y mark_laws ∙ sym (total_is K size s f x y law))
 
   made_cut : (ss : List Stage) → amounts_within 0 ss ≡ true → (f : Picture T) (g : Picture Mark) → Cut f g → Cut (made K size ss f) (made marks size ss g)
   unfolding made

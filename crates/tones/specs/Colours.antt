@@ -1,5 +1,5 @@
 -- The kind of colours: ranked by brightness, then falling saturation, then hue; no amount lowers one. Assumes nothing.
-use Rattle.std.specs.Prelude.{◌≡◌, ℕ, ◌+◌, ◌-◌, ◌*◌, ◌/◌, ◌%◌, ◌<◌, min, Bool, false, cond, ◌&&◌, ◌⊎◌, ◌↔◌, Result, MatchResult, nat_lt}
+use Rattle.std.specs.Prelude.{◌≡◌, ℕ, ◌+◌, ◌-◌, ◌*◌, ◌/◌, ◌%◌, ◌<◌, min, Bool, false, cond, ◌&&◌, ◌⊎◌, ◌↔◌, ℤ, pos, Result, MatchResult, nat_lt}
 use Rattle.std.proofs.Common.{arith}
 use Rattle.tones.specs.Kind.{Kind}
 use Rattle.tones.specs.Refusals.{refusal_number}
@@ -20,6 +20,10 @@ top = colour 359 0 255
 
 abbrev pub code : Colour → ℕ
 code t = (t.brightness * 256 + 255 - t.saturation) * 360 + t.hue
+
+-- the whole number that a colour stands for: its code
+abbrev pub colour_value : Colour → ℤ
+colour_value t = pos (code t)
 
 -- the parts of a colour as a row
 abbrev pub parts : ℕ → ℕ → ℕ → ColourRow

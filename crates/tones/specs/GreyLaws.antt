@@ -1,7 +1,8 @@
 -- The laws of greys.
-use Rattle.std.specs.Prelude.{◌≡◌, ◌≤◌, ℤ, pos, ◌-ℤ◌, unsigned_abs}
-use Rattle.std.proofs.Common.{◌∙◌, ap, arith}
+use Rattle.std.specs.Prelude.{◌≡◌, ℕ, ◌<◌, ◌≤◌, ℤ, pos, ◌-ℤ◌, unsigned_abs}
+use Rattle.std.proofs.Common.{◌∙◌, ⊎_elim, ap, arith}
 use denote.Struct.Record.{values_one}
+use Rattle.std.proofs.lemmas.Bool.{cases_lt}
 use Rattle.std.proofs.lemmas.Int.{ints, clamps}
 use Rattle.tones.specs.Kind.{Laws, held}
 use Rattle.tones.specs.Whole.{WholeNumbers}
@@ -20,6 +21,16 @@ level_held t = same_grey (greys.tone t.level) t (omega (arith, ints, clamps, t.w
 less_keeps : (t u : Grey) (a : ℤ) → t.level ≤ u.level → (grey_less t a).level ≤ (grey_less u a).level
 less_keeps t u a h = omega (arith, ints, clamps)
 
+-- a byte is the row of a grey, and a row above it counts as the top tone
+byte_back : (n : ℕ) → n < 256 → greys.row (greys.counted n) ≡ n
+byte_back n h = omega (arith, ints, clamps)
+
+above_top : (n : ℕ) → 256 ≤ n → greys.counted n ≡ greys.tone 255
+above_top n h = same_grey (greys.counted n) (greys.tone 255) (omega (arith, ints, clamps))
+
+no_row : (n : ℕ) → ((t : Grey) → greys.row t ≡ n → ⊥) → greys.counted n ≡ greys.tone 255
+no_row n none = ⊎_elim (λ h. absurd (none (greys.counted n) (byte_back n h))) (above_top n) (cases_lt n 256)
+
 pub grey_laws : Laws greys
 grey_laws = record {
   some = omega arith;
@@ -33,6 +44,7 @@ grey_laws = record {
   beyond = spanned_out 255 grey_less;
   keeps = spanned_keeps 255 grey_less greys.code less_keeps;
   laid = level_held;
+  outside = no_row;
 }
 
 -- what is held to 0..255 is at least 0

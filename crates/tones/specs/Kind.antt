@@ -37,6 +37,8 @@ pub record Laws {T Row : Type 0} (k : Kind T Row) : Type 0 where
   pub keeps : (t u : T) (a : ℤ) → k.code t ≤ k.code u → k.code (k.lowered t a) ≤ k.code (k.lowered u a)
   -- the row of a tone counts as that tone
   pub laid : (t : T) → k.counted (k.row t) ≡ t
+  -- a row that is no tone's counts as the top tone
+  pub outside : (r : Row) → ((t : T) → k.row t ≡ r → ⊥) → k.counted r ≡ k.tone (k.count - 1)
 
 -- a whole number held to low..high
 abbrev pub held : ℤ → ℤ → ℤ → ℤ

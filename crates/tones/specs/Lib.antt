@@ -1,11 +1,13 @@
 pub mod Kind
 pub mod Whole
+pub mod Codes
 pub mod Refusals
 pub mod Marks
 pub mod Greys
 pub mod Reliefs
 pub mod Colours
 pub mod Ranking
+pub mod MarkLaws
 pub mod ColourLaws
 pub mod GreyLaws
 pub mod Spans

@@ -1,5 +1,5 @@
 -- The kind of marks: no has code 0, yes code 1; no amount lowers one. Assumes nothing.
-use Rattle.std.specs.Prelude.{ℕ, Bool, true, false, nat_le}
+use Rattle.std.specs.Prelude.{ℕ, Bool, true, false, ℤ, pos, nat_le}
 use Rattle.tones.specs.Kind.{Kind}
 use Rattle.tones.specs.declared.kinds.Mark.{Mark}
 use Rattle.tones.specs.declared.kinds.Mark.TheVariants.{No, Yes}
@@ -8,6 +8,10 @@ use Rattle.tones.specs.declared.kinds.Mark.TheVariants.{No, Yes}
 abbrev pub mark_code : Mark → ℕ
 mark_code No = 0
 mark_code Yes = 1
+
+-- the whole number that a mark stands for: its code
+abbrev pub mark_value : Mark → ℤ
+mark_value t = pos (mark_code t)
 
 -- the row of a mark, and the mark of a row
 abbrev pub mark_row : Mark → Bool

@@ -1,13 +1,13 @@
 -- The laws of reliefs.
-use Rattle.std.specs.Prelude.{◌≡◌, ◌≤◌, ℤ, pos, neg_ℤ, ◌≤ℤ◌}
+use Rattle.std.specs.Prelude.{◌≡◌, ◌≤◌, true, ℤ, pos, neg_ℤ, ◌≤ℤ◌}
 use Rattle.std.proofs.Common.{ap, arith}
 use denote.Struct.Record.{values_one}
 use Rattle.std.proofs.lemmas.Int.{ints, clamps}
 use Rattle.std.proofs.lemmas.Bool.Decides.{nat_tests}
 use Rattle.tones.specs.Kind.{Laws}
 use Rattle.tones.specs.Whole.{WholeNumbers}
-use Rattle.tones.specs.Reliefs.{relief_less, relief_value, reliefs}
-use Rattle.tones.specs.Spans.{held_keeps, spanned_in, spanned_out, spanned_keeps}
+use Rattle.tones.specs.Reliefs.{lawful, relief, relief_less, relief_value, reliefs}
+use Rattle.tones.specs.Spans.{held_keeps, outside_top, spanned_in, spanned_out, spanned_keeps}
 use Rattle.tones.specs.declared.kinds.Relief.{Relief}
 use Rattle.tones.specs.contracts.kinds.Relief.{struct, the_propositions}
 
@@ -25,6 +25,10 @@ code_down t u h = omega (arith, ints, t.within, u.within)
 less_keeps : (t u : Relief) (a : ℤ) → reliefs.code t ≤ reliefs.code u → reliefs.code (relief_less t a) ≤ reliefs.code (relief_less u a)
 less_keeps t u a h = code_down (relief_less t a) (relief_less u a) (held_keeps (neg_ℤ (pos 255)) (pos 255) t.height u.height a (code_up t u h))
 
+-- a lawful height is the row of the relief of that height
+pub height_back : (z : ℤ) → lawful z ≡ true → reliefs.row (relief z) ≡ z
+height_back z e = grind (arith, ints, clamps, nat_tests)
+
 pub relief_laws : Laws reliefs
 relief_laws = record {
   some = omega arith;
@@ -38,6 +42,7 @@ relief_laws = record {
   beyond = spanned_out 255 relief_less;
   keeps = spanned_keeps 255 relief_less reliefs.code less_keeps;
   laid = λ t. same_relief (reliefs.counted t.height) t (grind (arith, ints, nat_tests, t.within));
+  outside = outside_top reliefs.row lawful relief (relief (pos 255)) height_back;
 }
 
 pub relief_whole : WholeNumbers reliefs (neg_ℤ (pos 255)) (pos 255) relief_value

@@ -1,8 +1,8 @@
--- Lowering within a span, and holding to a range, for any kind.
+-- Lowering within a span, holding to a range, and rows outside the limits, for any kind.
 use Rattle.std.specs.Prelude.{◌≡◌, ℕ, ◌<◌, ◌≤◌, Bool, true, false, cond, ℤ, ◌-ℤ◌, ◌≤ℤ◌, nat_le, unsigned_abs}
 use Rattle.std.proofs.Common.{arith}
 use Rattle.std.proofs.lemmas.Int.{ints, clamps}
-use Rattle.std.proofs.lemmas.Bool.{le-leb, lt-leb, cond-true, cond-false}
+use Rattle.std.proofs.lemmas.Bool.{le-leb, lt-leb, cond-true, cond-false, false_from_ne_true}
 use Rattle.tones.specs.Kind.{held, spanned}
 
 -- of two whole numbers less the same amount, held to a range, none passes the other
@@ -25,3 +25,12 @@ module _ {T : Type 0} (span : ℕ) (less : T → ℤ → T) where
       go : (b : Bool) → code (cond b (less t a) t) ≤ code (cond b (less u a) u)
       go true = keeps t u a h
       go false = h
+
+module _ {T Row : Type 0} (row : T → Row) (lawful : Row → Bool) (read : Row → T) (top : T) where
+  -- a row that is no tone's counts as the top tone, if a lawful row is that of the tone read from it
+  pub outside_top :
+      ((r : Row) → lawful r ≡ true → row (read r) ≡ r)
+      → (r : Row) → ((t : T) → row t ≡ r → ⊥) → cond (lawful r) (read r) top ≡ top
+  outside_top back r none =
+      let out : lawful r ≡ false = false_from_ne_true (lawful r) (λ e. none (read r) (back r e)) in
+      cond-false (lawful r) (read r) top out

@@ -1,6 +1,7 @@
 // Colours: ranked by brightness, then falling saturation, then hue; no amount lowers one.
-ghost use Rattle.tones.specs.Colours.{colours, parts, Making, Before, RankedByParts};
-ghost use Rattle.std.specs.Prelude.{◌≡◌, Decides};
+ghost use Rattle.tones.specs.Colours.{colours, colour_value, parts, Making, Before, RankedByParts};
+ghost use Rattle.tones.specs.Whole.{WholeNumbers};
+ghost use Rattle.std.specs.Prelude.{◌≡◌, pos, Decides};
 ghost use Rattle.tones.specs.ColourLaws.{colour_laws};
 
 use crate::interface::Tone;
@@ -18,6 +19,7 @@ impl Colour {
     /// The colour of its parts; refused for a hue of 360 or more.
     pub fn new(hue: u16, saturation: u8, brightness: u8) -> Result<Colour, ToneRefusal>
         ensures answer { Making (parts hue saturation brightness) result }
+        ensures whole { WholeNumbers colours (pos 0) (pos 23592959) colour_value }
     {
         if hue >= 360 {
             return Err(ToneRefusal::OutsideLimits);

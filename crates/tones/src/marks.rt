@@ -1,7 +1,8 @@
 // Marks: no has code 0, yes code 1; no amount lowers one.
-ghost use Rattle.tones.specs.Marks.{mark, marks};
-ghost use Rattle.std.specs.Prelude.{◌≡◌};
-ghost use Rattle.std.proofs.Common.{rules};
+ghost use Rattle.tones.specs.Marks.{mark, mark_value, marks};
+ghost use Rattle.tones.specs.Whole.{WholeNumbers};
+ghost use Rattle.std.specs.Prelude.{◌≡◌, pos};
+ghost use Rattle.tones.specs.MarkLaws.{mark_laws};
 
 use crate::interface::Tone;
 use crate::kinds::Mark;
@@ -9,7 +10,8 @@ use crate::kinds::Mark;
 impl Mark {
     /// The mark of its row. Not a `From`: each kind is made by its `new`.
     pub fn new(yes: bool) -> Mark
-        ensures { result ≡ mark yes }
+        ensures answer { result ≡ mark yes }
+        ensures whole { WholeNumbers marks (pos 0) (pos 1) mark_value }
     {
         if yes { Mark::Yes } else { Mark::No }
     }
@@ -20,7 +22,7 @@ impl Tone for Mark {
 
     ghost kind = { marks };
 
-    ghost lawful = { Prim.search rules };
+    ghost lawful = { mark_laws };
 
     fn count() -> u32 {
         2
