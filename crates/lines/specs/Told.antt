@@ -1,8 +1,6 @@
 -- What is told of the result of each call, and how the calls are counted. Assumes nothing.
-use Rattle.std.specs.Prelude.{ℕ, ◌+◌, ◌%◌, ◌^◌, Ok, Err, Result}
+use Rattle.std.specs.Prelude.{◌≡◌, ℕ, ◌+◌, ◌%◌, ◌^◌, Ok, Err, Some, None, Option, Result}
 use Rattle.calls.specs.declared.refusals.Refusal.{Refusal}
-use Rattle.recipes.specs.declared.refusals.DraftRefusal.{DraftRefusal}
-use Rattle.recipes.specs.declared.refusals.ElementRefusal.{ElementRefusal}
 use Rattle.selectors.specs.declared.calls.CallRefusal.{CallRefusal}
 use Rattle.selectors.specs.declared.calls.Reply.{Reply}
 use Rattle.selectors.specs.declared.calls.Reply.TheVariants as reply
@@ -28,13 +26,12 @@ call_told = told_of done fault.Card
 abbrev pub work_told : Result ℕ Refusal → Result Answer Fault
 work_told = told_of told.Counted fault.Card
 
--- a call on an element
-abbrev pub element_told : Result (Unit {0}) ElementRefusal → Result Answer Fault
-element_told = told_of done fault.Element
-
--- a step
-abbrev pub step_told : Result (Unit {0}) DraftRefusal → Result Answer Fault
-step_told = told_of done fault.Draft
+-- a call that is refused with this number, if with any: done, or the refusal of its kind that has the number
+abbrev pub DoneUnless :
+    {E : Type 0} → (E → Fault) → (E → ℕ) → Option ℕ → Result Answer Fault → Type 0
+DoneUnless kind number refusal (Ok a) = (refusal ≡ None) × (a ≡ told.Done)
+DoneUnless {E} kind number refusal (Err f) =
+    (e : E) × (refusal ≡ Some (number e)) × (f ≡ kind e)
 
 -- a selector's total stands alone, since it is never refused
 abbrev pub reply_answer : Reply → Answer

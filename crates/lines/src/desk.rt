@@ -3,7 +3,7 @@
 ghost use Rattle.std.specs.Prelude.{◌≡◌, [], ◌∷◌, None};
 ghost use Rattle.recipes.specs.Placed.{placed};
 ghost use Rattle.recipes.specs.Places.{origin};
-ghost use Rattle.lines.specs.Desks.{Drafted, Stepped, edit_answer, edit_order, edit_places};
+ghost use Rattle.lines.specs.Desks.{Drafted, Edited, Stepped, edit_order, edit_places};
 
 use crate::answers::{Answer, Fault};
 use crate::commands::{Drafting, Edit};
@@ -32,7 +32,7 @@ impl Desk {
 
     /// Makes the call on the present element.
     pub fn edit(&mut self, edit: Edit) -> Result<Answer, Fault>
-        ensures answer { result ≡ edit_answer (placed self.old.element) edit }
+        ensures answer { Edited (placed self.old.element) edit result }
         ensures places { placed self.new.element ≡ edit_places (placed self.old.element) edit }
         ensures order { self.new.element.order ≡ edit_order (placed self.old.element) self.old.element.order edit }
         ensures draft { self.new.draft ≡ self.old.draft }

@@ -6,7 +6,7 @@ use Rattle.recipes.specs.Placed.{placed}
 use Rattle.calls.specs.Calls.{Notes, State}
 use Rattle.cards.specs.Meanings.{state_of}
 use Rattle.selectors.specs.Played.{after}
-use Rattle.lines.specs.Desks.{Drafted, edit_answer, edit_order, edit_places}
+use Rattle.lines.specs.Desks.{Drafted, Edited, edit_order, edit_places}
 use Rattle.lines.specs.Lines.{Says}
 use Rattle.lines.specs.Words.{Rest}
 use Rattle.lines.specs.declared.answers.Answer.{Answer}
@@ -34,7 +34,11 @@ module _ {T R S : Type 0} (K : Kind T R) (Written : Rest → R → Type 0) (show
   -- a command is played on a player and a desk, and told
   abbrev pub Commanded : Seen T R S → Desk → Command → Result Answer Fault → Seen T R S → Desk → Type 0
   Commanded p d (Choose c) r q e = ⊥
-  Commanded p d (OnElement edit) r q e = (q ≡ p) × (r ≡ edit_answer (placed d.element) edit) × (placed e.element ≡ edit_places (placed d.element) edit) × (e.element.order ≡ edit_order (placed d.element) d.element.order edit) × (e.draft ≡ d.draft)
+  Commanded p d (OnElement edit) r q e =
+      (q ≡ p) × Edited (placed d.element) edit r
+      × (placed e.element ≡ edit_places (placed d.element) edit)
+      × (e.element.order ≡ edit_order (placed d.element) d.element.order edit)
+      × (e.draft ≡ d.draft)
   Commanded p d (OnDraft drafting) r q e = (q ≡ p) × Drafted d.draft d.element drafting e.draft r × (e.element ≡ d.element)
   Commanded p d (OnSelector call) r q e = (e ≡ d) × (q.card ≡ p.card) × (q.memory ≡ p.memory) × (q.area ≡ p.area) × Ranks (weight p.own) (range p.own) call r × ((c : ℕ) → weight q.own c ≡ after (weight p.own) (range p.own) call c)
   Commanded p d (OnCard call) r q e =
