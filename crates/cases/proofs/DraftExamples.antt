@@ -11,7 +11,6 @@ use Rattle.recipes.specs.declared.draft.Draft.{Draft}
 use Rattle.recipes.specs.declared.draft.Step.{Step}
 use Rattle.recipes.specs.declared.recipe.Recipe.{Recipe}
 use Rattle.recipes.specs.declared.refusals.DraftRefusal.{DraftRefusal}
-use Rattle.recipes.specs.declared.refusals.DraftRefusal.TheVariants.{UnknownLetter, Full, TooFew}
 use Rattle.stages.specs.Stages.{made}
 use Rattle.cases.specs.Examples.{DraftExamples, NoSteps, IsTooShort}
 
@@ -21,15 +20,13 @@ steps_long d = length-take-le d.count d.steps (omega (arith, d.long, d.few))
 -- a draft with fewer steps than declared
 short_finish : (d : Draft) → length (steps_of d) < d.declared → (r : Result Recipe DraftRefusal) → Finished d r → MatchResult r (λ k. ⊥) (λ e. draft_number e ≡ 19)
 short_finish d h (Ok k) f = omega (arith, h, f.0)
-short_finish d h (Err UnknownLetter) f = absurd f
-short_finish d h (Err Full) f = absurd f
-short_finish d h (Err TooFew) f = refl
+short_finish d h (Err e) f = f.1
 
 short : (d : Draft) → length (steps_of d) < d.declared → IsTooShort d
 short d h =
     let e : ltb (length (steps_of d)) d.declared ≡ true = lt-ltb (length (steps_of d)) d.declared h in
     record {
-      short = h;
+      short = (h, refl);
       finish = short_finish d h;
       refused = λ span most. rw e;
       install = λ o. rw e;
@@ -44,9 +41,7 @@ every_empty P h d q =
 
 empty_finish : (d : Draft) → d.declared ≡ 0 → drafted d ≡ [] → (r : Result Recipe DraftRefusal) → Finished d r → MatchResult r (λ k. staged k ≡ []) (λ e. ⊥)
 empty_finish d h e (Ok k) f = f.1 ∙ e
-empty_finish d h e (Err UnknownLetter) f = f
-empty_finish d h e (Err Full) f = f
-empty_finish d h e (Err TooFew) f = omega (arith, h, f)
+empty_finish d h e (Err r) f = omega (arith, h, f.0)
 
 empty : (d : Draft) → d.declared ≡ 0 → NoSteps d
 unfolding last_area made stale_rows

@@ -14,7 +14,7 @@ tone_examples = record { lowered = λ t h. rw h; raised = λ t h. rw h; relief =
 
 pub order_examples : OrderExamples
 unfolding standard_places grid
-order_examples = record { shape = refl; places = refl; order_2 = refl; order_0 = refl; order_3 = refl; number = refl }
+order_examples = record { shape = refl; places = refl; order_2 = refl; order_0 = refl; order_3 = refl }
 
 pub erosion_examples : (d : Draft) → ECross d → ErosionExamples d
 unfolding made cleaned ranked window below

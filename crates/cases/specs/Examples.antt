@@ -12,9 +12,9 @@ use Rattle.calls.specs.Runs.{Says}
 use Rattle.calls.specs.declared.refusals.Refusal.TheVariants.{Stale}
 use Rattle.planes.specs.declared.size.Size.{Size}
 use Rattle.recipes.specs.Drafts.{letter_of, steps_of}
-use Rattle.recipes.specs.Edits.{order_answer}
+use Rattle.recipes.specs.Edits.{order_refusal}
 use Rattle.recipes.specs.Recipes.{Finished, staged}
-use Rattle.recipes.specs.Refusals.{draft_number, element_number}
+use Rattle.recipes.specs.Refusals.{draft_number}
 use Rattle.recipes.specs.Shapes.{shape_of, standard_places}
 use Rattle.recipes.specs.declared.draft.Draft.{Draft}
 use Rattle.recipes.specs.declared.draft.Letter.TheVariants as letter
@@ -22,7 +22,6 @@ use Rattle.recipes.specs.declared.recipe.Operation.TheVariants.{Dilation}
 use Rattle.recipes.specs.declared.recipe.Recipe.{Recipe}
 use Rattle.recipes.specs.declared.refusals.DraftRefusal.{DraftRefusal}
 use Rattle.recipes.specs.declared.refusals.DraftRefusal.TheVariants.{TooFew}
-use Rattle.recipes.specs.declared.refusals.ElementRefusal.TheVariants.{UnlawfulOrder}
 use Rattle.recipes.specs.declared.shapes.Shape.TheVariants.{Cross}
 use Rattle.selectors.specs.Bag.{added}
 use Rattle.selectors.specs.Calls.{Selected, select_number}
@@ -93,11 +92,10 @@ pub record OrderExamples : Type 0 where
   pub shape : shape_of 0 ≡ Some Cross
   pub places : standard_places Cross ≡ cross_places
   -- it takes order 2
-  pub order_2 : order_answer (standard_places Cross) 2 ≡ Ok tt
+  pub order_2 : order_refusal (standard_places Cross) 2 ≡ None
   -- orders 0 and 3 are refused with 10
-  pub order_0 : order_answer (standard_places Cross) 0 ≡ Err UnlawfulOrder
-  pub order_3 : order_answer (standard_places Cross) 3 ≡ Err UnlawfulOrder
-  pub number : element_number UnlawfulOrder ≡ 10
+  pub order_0 : order_refusal (standard_places Cross) 0 ≡ Some 10
+  pub order_3 : order_refusal (standard_places Cross) 3 ≡ Some 10
 
 -- E with the cross of order 2 on the card 10 20 30 / 40 50 60 / 70 80 90 makes 10 20 30 / 40 40 50 / 70 70 80
 pub record ErosionExamples (d : Draft) : Type 0 where
