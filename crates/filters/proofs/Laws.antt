@@ -16,6 +16,7 @@ laws_hold K law = record {
   soft_morphology = softness.soft_morphology K law;
   steps = steps.steps K law;
   flat_steps = steps.flat_steps K law;
+  in_turn = steps.in_turn K;
   marks_count = counting.marks_count;
   keeps_vector = vectors.keeps_vector K law;
   local = locality.local K;

@@ -1,5 +1,5 @@
 -- A step makes what its letter says, and a flat one does so on the numbers themselves. Assumes nothing.
-use Rattle.std.proofs.Common.{◌≡◌, ℕ, ◌≤◌, ℤ, nat_abs, ◌≤ℤ◌, sym, refl, ◌∙◌, subst, arith}
+use Rattle.std.proofs.Common.{◌≡◌, ℕ, ◌≤◌, List, [], ◌∷◌, ◌++◌, ℤ, nat_abs, ◌≤ℤ◌, sym, refl, ◌∙◌, subst, arith}
 use Rattle.std.specs.List.{AllByRecursion}
 use Rattle.std.proofs.ByRecursion.{All-weaker}
 use Rattle.std.proofs.lemmas.Int.{ints, clamps}
@@ -11,13 +11,13 @@ use Rattle.recipes.specs.declared.recipe.Operation.{Operation}
 use Rattle.recipes.specs.declared.recipe.Operation.TheVariants.{Erosion, Dilation}
 use Rattle.recipes.specs.declared.recipe.Stage.{Stage}
 use Rattle.recipes.specs.Placed.{placed}
-use Rattle.recipes.specs.Recipes.{eroding, dilating, stages_by}
+use Rattle.recipes.specs.Recipes.{eroding, dilating, stages_by, stages_of}
 use Rattle.stages.specs.Stages.{Picture, read, cleaned, made}
 use Rattle.tones.specs.Kind.{Kind, Laws, held}
 use Rattle.tones.specs.Whole.{WholeNumbers}
 use Rattle.filters.specs.Orders.{Kth}
 use Rattle.filters.specs.Morphology.{On, moved, number_read, difference, numbers, differences}
-use Rattle.filters.specs.Steps.{IsMade, Steps, FlatSteps}
+use Rattle.filters.specs.Steps.{IsMade, Steps, FlatSteps, StepsInTurn}
 use Rattle.filters.proofs.Choices.{given_same, kth_given}
 use Rattle.filters.proofs.Cuts.{amounts, nought}
 use Rattle.filters.proofs.Softness.{soft_morphology, stage_law}
@@ -84,3 +84,12 @@ flat_steps K law low high value whole size l e f flat =
     (λ f x y on. flat_law K law low high value whole size (eroding e) f x y (amounts 0 (placed e) flat) on Erosion refl)
     (λ f x y on. flat_law K law low high value whole size (dilating e) f x y (amounts 0 (placed e) flat) on Dilation refl)
     l f
+
+-- stages after others make what they make of what those made
+made_append : {T R : Type 0} (K : Kind T R) (size : Size) (ss ts : List Stage) (f : Picture T) → made K size (ss ++ ts) f ≡ made K size ts (made K size ss f)
+unfolding made
+made_append K size [] ts f = refl
+made_append K size (s ∷ ss) ts f = made_append K size ss ts (whole_picture K size s f)
+
+pub in_turn : {T R : Type 0} (K : Kind T R) → StepsInTurn K
+in_turn K size s ss f = made_append K size (stages_by s.letter s.element) (stages_of ss) f

@@ -1,12 +1,13 @@
 -- What the steps of a recipe make, where tones are whole numbers: erosion, dilation, opening and
 -- closing by name, at every pixel of the card, edges too. Assumes nothing.
-use Rattle.std.specs.Prelude.{◌≡◌, ℕ, true, ℤ}
+use Rattle.std.specs.Prelude.{◌≡◌, ℕ, true, List, ◌∷◌, ℤ}
 use Rattle.planes.specs.declared.size.Size.{Size}
 use Rattle.recipes.specs.declared.draft.Letter.{Letter}
 use Rattle.recipes.specs.declared.draft.Letter.TheVariants as letter
+use Rattle.recipes.specs.declared.draft.Step.{Step}
 use Rattle.recipes.specs.declared.element.Element.{Element}
 use Rattle.recipes.specs.Placed.{placed}
-use Rattle.recipes.specs.Recipes.{places_within, eroding, dilating, stages_by}
+use Rattle.recipes.specs.Recipes.{places_within, eroding, dilating, stages_by, stages_of}
 use Rattle.stages.specs.Stages.{Picture, made}
 use Rattle.tones.specs.Kind.{Kind, held}
 use Rattle.tones.specs.Whole.{WholeNumbers}
@@ -90,3 +91,11 @@ module _ {T R : Type 0} (K : Kind T R) where
       → (size : Size) (l : Letter) (e : Element) (f : Picture T)
       → places_within 0 (placed e) ≡ true
       → MakesFlat K value size e l f (made K size (stages_by l e) f)
+
+  -- a recipe makes what its steps make in turn, the first of the picture, each later one of what the
+  -- one before made
+  abbrev pub StepsInTurn : Type 0
+  StepsInTurn =
+      (size : Size) (s : Step) (ss : List Step) (f : Picture T)
+      → made K size (stages_of (s ∷ ss)) f
+      ≡ made K size (stages_of ss) (made K size (stages_by s.letter s.element) f)
