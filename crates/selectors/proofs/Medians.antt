@@ -1,26 +1,27 @@
 -- Entries put one by one, and the rank of the median. Assumes nothing.
-use Rattle.std.proofs.Common.{◌≡◌, ℕ, zero, suc, ◌+◌, ◌/◌, ◌%◌, ◌<◌, ◌≤◌, min, ◌||◌, eqb, leb, ◌⊎◌, List, length, get_or, Ok, Err, Result, sym, refl, ap, ◌∙◌, subst, ⊎_elim, arith, below_more as each_more}
+use Rattle.std.proofs.Common.{◌≡◌, ℕ, zero, suc, ◌+◌, ◌/◌, ◌%◌, ◌<◌, ◌≤◌, min, ◌||◌, eqb, leb, ◌⊎◌, List, length, get_or, Some, None, Option, Ok, Err, Result, sym, refl, ap, ◌∙◌, subst, ⊎_elim, arith, below_more as each_more}
 use Rattle.std.specs.Result.{result_map_both}
 use mathlib.Core.Path.{fun_ext}
 use Rattle.std.proofs.lemmas.Bool.Decides.{nat_tests}
 use Rattle.std.proofs.lemmas.Bool.{cases_eq, cases_lt, eq-eqb, le-leb, or_left, or_right}
 use Rattle.selectors.specs.declared.entries.Entry.{Entry}
 use Rattle.selectors.specs.declared.median.MedianRefusal.TheVariants.{NoEntries}
-use Rattle.selectors.specs.declared.refusals.PutRefusal.{PutRefusal}
-use Rattle.selectors.specs.declared.refusals.PutRefusal.TheVariants.{Unfit}
 use Rattle.selectors.specs.declared.refusals.SelectRefusal.{SelectRefusal}
 use Rattle.selectors.specs.Bag.{below, added, Ranked}
-use Rattle.selectors.specs.Calls.{put_answer, Selected}
+use Rattle.selectors.specs.Calls.{put_refusal, Selected}
 use Rattle.selectors.specs.Entries.{blank, share, weigh}
 use Rattle.selectors.specs.Median.{put_at, put_count, Taken, Halves, Median}
 use Rattle.selectors.proofs.Sums.{below_more, below_at}
 use Rattle.selectors.proofs.Ranks.{ranked_below}
 use Rattle.selectors.proofs.Weighing.{weigh_some}
 
--- what a selector of range Q that holds the first i entries answers to the next one
-pub put_next : (es : List Entry) (v : ℕ → ℕ) (Q R i : ℕ) (x : Result (Unit {0}) PutRefusal) → ((d : ℕ) → v d ≡ weigh es i d) → Q ≡ R → x ≡ put_answer v Q (get_or es i blank).code (get_or es i blank).weight → put_at es R i ≡ x
+-- what refuses the next entry, by a selector of range Q that holds the first i
+pub put_next : (es : List Entry) (v : ℕ → ℕ) (Q R i : ℕ) (x : Option ℕ) → ((d : ℕ) → v d ≡ weigh es i d)
+    → Q ≡ R
+    → x ≡ put_refusal v Q (get_or es i blank).code (get_or es i blank).weight
+    → put_at es R i ≡ x
 put_next es v Q R i x same range answer =
-    sym (answer ∙ ap (λ w. put_answer w Q (get_or es i blank).code (get_or es i blank).weight) (fun_ext same) ∙ ap (λ S. put_at es S i) range)
+    sym (answer ∙ ap (λ w. put_refusal w Q (get_or es i blank).code (get_or es i blank).weight) (fun_ext same) ∙ ap (λ S. put_at es S i) range)
 
 -- one entry more
 pub weigh_next : (es : List Entry) (i c : ℕ) → weigh es (i + 1) c ≡ added (weigh es i) (get_or es i blank).code (get_or es i blank).weight c
@@ -28,13 +29,13 @@ weigh_next es i c =
     let fin : weigh es i c + share (get_or es i blank) c ≡ added (weigh es i) (get_or es i blank).code (get_or es i blank).weight c = grind (arith, nat_tests) in
     below_more (λ k. share (get_or es k blank) c) i ∙ fin
 
-pub taken_more : (es : List Entry) (R i : ℕ) → Taken es R i → put_at es R i ≡ Ok tt → Taken es R (i + 1)
-taken_more es R i t here = each_more (λ k. put_at es R k ≡ Ok tt) i t here
+pub taken_more : (es : List Entry) (R i : ℕ) → Taken es R i → put_at es R i ≡ None → Taken es R (i + 1)
+taken_more es R i t here = each_more (λ k. put_at es R k ≡ None) i t here
 
 -- what is taken has weight and a code below the range
-pub put_fit : (w : ℕ → ℕ) (R c a : ℕ) → put_answer w R c a ≡ Ok tt → (0 < a) × (c < R)
+pub put_fit : (w : ℕ → ℕ) (R c a : ℕ) → put_refusal w R c a ≡ None → (0 < a) × (c < R)
 put_fit w R c a ok =
-    let fit : (eqb a 0 || leb R c) ≡ mathlib.Core.Bool.true → ⊥ = λ t. (let bad : put_answer w R c a ≡ Err Unfit = rw t in let z : ◌≡◌ {A = ℕ} 0 1 = cc in omega arith) in (
+    let fit : (eqb a 0 || leb R c) ≡ mathlib.Core.Bool.true → ⊥ = λ t. (let bad : put_refusal w R c a ≡ Some 2 = rw t in cc) in (
       ⊎_elim (λ (e : a ≡ 0). absurd (fit (or_left (eqb a 0) (leb R c) (eq-eqb a 0 e)))) (λ (n : a ≡ 0 → ⊥). omega arith) (cases_eq a 0),
       ⊎_elim (λ (l : c < R). l) (λ (l : R ≤ c). absurd (fit (or_right (eqb a 0) (leb R c) (le-leb R c l)))) (cases_lt c R),
     )
@@ -60,4 +61,4 @@ median_end es w R t r (Ok c) taken bag whole half sel = ((taken, subst (λ v. Ha
 median_end es w R t r (Err e) taken bag whole half sel =
     let zero : below w R ≡ 0 = half_none w R t r whole half sel.1 in
     let none : length es ≡ 0 = taken_none es R (length es) taken (subst (λ v. below v R ≡ 0) bag zero) in
-    (none, λ d. ap (λ v. v d) bag ∙ ap (λ k. weigh es k d) none)
+    ((refl, none), λ d. ap (λ v. v d) bag ∙ ap (λ k. weigh es k d) none)

@@ -1,5 +1,5 @@
 -- Laws of `Ranked` and `Selected`: a rank has exactly one answer. Assumes nothing.
-use Rattle.std.proofs.Common.{◌≡◌, ℕ, zero, suc, ◌<◌, ◌≤◌, Ok, Err, Result, sym, refl, ap, ◌∙◌, inl, inr, ⊎_elim, arith}
+use Rattle.std.proofs.Common.{◌≡◌, ℕ, zero, suc, ◌<◌, ◌≤◌, Ok, Err, Result, refl, ap, inl, inr, ⊎_elim, arith}
 use Rattle.std.proofs.lemmas.Bool.{cases_lt, cases_eq}
 use Rattle.selectors.specs.declared.refusals.SelectRefusal.{SelectRefusal}
 use Rattle.selectors.specs.declared.refusals.SelectRefusal.TheVariants.{Unranked}
@@ -34,7 +34,7 @@ pub selected_one : (w : ℕ → ℕ) (R r : ℕ) (x y : Result ℕ SelectRefusal
 selected_one w R r (Ok c) (Ok d) p q = ap Ok (ranked_one w r c d p.2 q.2)
 selected_one w R r (Ok c) (Err e) p q = absurd (⊎_elim (λ (z : r ≡ 0). omega (arith, p.0)) (λ (z : below w R < r). omega (arith, p.1)) q.1)
 selected_one w R r (Err e) (Ok d) p q = absurd (⊎_elim (λ (z : r ≡ 0). omega (arith, q.0)) (λ (z : below w R < r). omega (arith, q.1)) p.1)
-selected_one w R r (Err e) (Err f) p q = ap Err (p.0 ∙ sym q.0)
+selected_one w R r (Err Unranked) (Err Unranked) p q = refl
 
 pub selected_some : (w : ℕ → ℕ) (R r : ℕ) → (x : Result ℕ SelectRefusal) × Selected w R r x
 selected_some w R r = ⊎_elim

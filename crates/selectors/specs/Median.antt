@@ -1,20 +1,26 @@
 -- The weighted median of a list of entries, put one by one into an empty selector of range R. Assumes nothing.
-use Rattle.std.specs.Prelude.{◌≡◌, ℕ, suc, ◌*◌, ◌<◌, ◌≤◌, List, length, Ok, Err, Result, slice_index_or}
+use Rattle.std.specs.Prelude.{◌≡◌, ℕ, suc, ◌*◌, ◌<◌, ◌≤◌, List, length, Some, None, Option, Ok, Err, Result, slice_index_or}
 use Rattle.selectors.specs.declared.entries.Entry.{Entry}
 use Rattle.selectors.specs.declared.median.MedianRefusal.{MedianRefusal}
 use Rattle.selectors.specs.declared.median.MedianRefusal.TheVariants.{Refused, NoEntries}
-use Rattle.selectors.specs.declared.refusals.PutRefusal.{PutRefusal}
 use Rattle.selectors.specs.Bag.{below}
-use Rattle.selectors.specs.Calls.{put_answer, put_number}
+use Rattle.selectors.specs.Calls.{put_refusal, put_number}
 use Rattle.selectors.specs.Entries.{blank, bag, weigh}
 
--- what the put of the i-th entry answers, after those before it
-abbrev pub put_at : List Entry → ℕ → ℕ → Result (Unit {0}) PutRefusal
-put_at es R i = put_answer (weigh es i) R (slice_index_or es i blank).code (slice_index_or es i blank).weight
+-- the number of each refusal
+abbrev pub median_number : MedianRefusal → ℕ
+median_number (Refused i e) = put_number e
+median_number NoEntries = 5
+
+-- the number that refuses the put of the i-th entry, after those before it
+abbrev pub put_at : List Entry → ℕ → ℕ → Option ℕ
+put_at es R i =
+    let e = slice_index_or es i blank in
+    put_refusal (weigh es i) R e.code e.weight
 
 -- the first n entries are taken
 abbrev pub Taken : List Entry → ℕ → ℕ → Type 0
-Taken es R n = (i : ℕ) → i < n → put_at es R i ≡ Ok tt
+Taken es R n = (i : ℕ) → i < n → put_at es R i ≡ None
 
 -- the codes below c weigh less than half of the total, and those up to c at least half
 abbrev pub Halves : (ℕ → ℕ) → ℕ → ℕ → Type 0
@@ -23,16 +29,12 @@ Halves w R c = (2 * below w c < below w R) × (below w R ≤ 2 * below w (suc c)
 -- the median of the entries where all are taken and there is one, or what is refused
 abbrev pub Median : List Entry → ℕ → Result ℕ MedianRefusal → Type 0
 Median es R (Ok c) = Taken es R (length es) × Halves (bag es) R c
-Median es R (Err (Refused i e)) = (i < length es) × Taken es R i × (put_at es R i ≡ Err e)
-Median es R (Err NoEntries) = length es ≡ 0
+Median es R (Err (Refused i e)) =
+    (i < length es) × Taken es R i × (put_at es R i ≡ Some (median_number (Refused i e)))
+Median es R (Err NoEntries) = (median_number NoEntries ≡ 5) × (length es ≡ 0)
 
 -- how many entries were put
 abbrev pub put_count : List Entry → Result ℕ MedianRefusal → ℕ
 put_count es (Ok c) = length es
 put_count es (Err (Refused i e)) = i
 put_count es (Err NoEntries) = 0
-
--- the number of each refusal
-abbrev pub median_number : MedianRefusal → ℕ
-median_number (Refused i e) = put_number e
-median_number NoEntries = 5

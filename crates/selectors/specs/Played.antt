@@ -1,5 +1,5 @@
 -- What a call answers on a selector with the bag w and the range R, and the bag that it leaves. Assumes nothing.
-use Rattle.std.specs.Prelude.{◌≡◌, ℕ, List, Ok, Err, codes, Result}
+use Rattle.std.specs.Prelude.{◌≡◌, ℕ, List, Some, None, Option, Ok, Err, codes, Result}
 use Rattle.selectors.specs.declared.calls.Kind.{Kind}
 use Rattle.selectors.specs.declared.calls.Kind.TheVariants.{Gate, Histogram, Ladder}
 use Rattle.selectors.specs.declared.calls.Call.{Call}
@@ -8,10 +8,9 @@ use Rattle.selectors.specs.declared.calls.Reply.{Reply}
 use Rattle.selectors.specs.declared.calls.Reply.TheVariants as reply
 use Rattle.selectors.specs.declared.calls.CallRefusal.{CallRefusal}
 use Rattle.selectors.specs.declared.calls.CallRefusal.TheVariants as refused
-use Rattle.selectors.specs.declared.refusals.PutRefusal.{PutRefusal}
 use Rattle.selectors.specs.declared.refusals.SelectRefusal.{SelectRefusal}
 use Rattle.selectors.specs.Bag.{below}
-use Rattle.selectors.specs.Calls.{put_answer, put_bag, put_number, Selected, select_number}
+use Rattle.selectors.specs.Calls.{put_bag, put_number, put_refusal, Selected, select_number}
 
 -- the word that names a kind
 abbrev pub name_of : Kind → List ℕ
@@ -19,31 +18,37 @@ name_of Gate = codes "gate"
 name_of Histogram = codes "histogram"
 name_of Ladder = codes "ladder"
 
--- a put's result, as the call's
-abbrev pub put_reply : Result (Unit {0}) PutRefusal → Result Reply CallRefusal
-put_reply (Ok _) = Ok reply.Done
-put_reply (Err e) = Err (refused.Put e)
-
--- a select's result, as the call's
-abbrev pub select_reply : Result ℕ SelectRefusal → Result Reply CallRefusal
-select_reply (Ok c) = Ok (reply.Code c)
-select_reply (Err e) = Err (refused.Select e)
-
--- the answer to each call
-abbrev pub Answered : (ℕ → ℕ) → ℕ → Call → Result Reply CallRefusal → Type 0
-Answered w R (Put c a) r = r ≡ put_reply (put_answer w R c a)
-Answered w R Total r = r ≡ Ok (reply.Total (below w R))
-Answered w R (Select k) r = (x : Result ℕ SelectRefusal) × Selected w R k x × (r ≡ select_reply x)
-Answered w R Empty r = r ≡ Ok reply.Done
-
--- the bag after each call
-abbrev pub after : (ℕ → ℕ) → ℕ → Call → ℕ → ℕ
-after w R (Put c a) = put_bag (put_answer w R c a) w c a
-after w R Total = w
-after w R (Select k) = w
-after w R Empty = λ _. 0
-
 -- the number of each refusal
 abbrev pub call_number : CallRefusal → ℕ
 call_number (refused.Put e) = put_number e
 call_number (refused.Select e) = select_number e
+
+-- a call's result, with the number of the refusal in place of its cause
+abbrev pub numbered : Result Reply CallRefusal → Result Reply ℕ
+numbered (Ok x) = Ok x
+numbered (Err e) = Err (call_number e)
+
+-- done, or refused by a number
+abbrev pub done_unless : Option ℕ → Result Reply ℕ
+done_unless None = Ok reply.Done
+done_unless (Some n) = Err n
+
+-- the code that a select answers, or its refusal's number
+abbrev pub code_or_number : Result ℕ SelectRefusal → Result Reply ℕ
+code_or_number (Ok c) = Ok (reply.Code c)
+code_or_number (Err e) = Err (select_number e)
+
+-- the answer to each call
+abbrev pub Answered : (ℕ → ℕ) → ℕ → Call → Result Reply CallRefusal → Type 0
+Answered w R (Put c a) r = numbered r ≡ done_unless (put_refusal w R c a)
+Answered w R Total r = numbered r ≡ Ok (reply.Total (below w R))
+Answered w R (Select k) r =
+    (x : Result ℕ SelectRefusal) × Selected w R k x × (numbered r ≡ code_or_number x)
+Answered w R Empty r = numbered r ≡ Ok reply.Done
+
+-- the bag after each call
+abbrev pub after : (ℕ → ℕ) → ℕ → Call → ℕ → ℕ
+after w R (Put c a) = put_bag (put_refusal w R c a) w c a
+after w R Total = w
+after w R (Select k) = w
+after w R Empty = λ _. 0

@@ -94,7 +94,8 @@ impl From<SelectRefusal> for CallRefusal {
 pub fn play<S: Selector>(selector: &mut S, call: Call) -> Result<Reply, CallRefusal>
     requires { S.ordered selector.old }
     ensures answer { Answered (S.weight selector.old) (S.range selector.old) call result }
-    ensures weights { (c : ℕ) → S.weight selector.new c ≡ after (S.weight selector.old) (S.range selector.old) call c }
+    ensures weights { (c : ℕ) → S.weight selector.new c
+        ≡ after (S.weight selector.old) (S.range selector.old) call c }
     ensures range_kept { S.range selector.new ≡ S.range selector.old }
     ensures in_order { S.ordered selector.new }
 {

@@ -1,10 +1,9 @@
 //! Codes with their weights, as the gate and the ladder keep them.
 ghost use Rattle.std.specs.Prelude.{◌≡◌, ℕ, ◌≤◌, ◌⊎◌, Err, MatchResult, Ok, length, take};
 ghost use Rattle.selectors.specs.Bag.{below};
-ghost use Rattle.selectors.specs.Calls.{put_answer, put_bag};
+ghost use Rattle.selectors.specs.Calls.{put_bag, put_number, put_refusal, put_refused};
 ghost use Rattle.selectors.specs.Entries.{Fit, Found, Rising, Seat, Weighty, bag, weigh};
 ghost use Rattle.selectors.specs.Tally.{Tally};
-ghost use Rattle.selectors.specs.declared.refusals.PutRefusal.TheVariants.{Unfit};
 
 use crate::limits::{MOST_CODES, WIDE_RANGE, heavier};
 use crate::refusals::PutRefusal;
@@ -22,7 +21,8 @@ impl Entry {
 
     /// The entry, where a put may take it: it has weight, and its code is below the range.
     pub(crate) fn checked(code: u32, weight: u32) -> Result<Entry, PutRefusal>
-        ensures { MatchResult result (λ e. (e ≡ record { code = code; weight = weight }) × Fit e) (λ r. (r ≡ Unfit) × ((weight ≡ 0) ⊎ (33554432 ≤ code))) }
+        ensures { MatchResult result (λ e. (e ≡ record { code = code; weight = weight }) × Fit e)
+            (λ r. (put_number r ≡ 2) × ((weight ≡ 0) ⊎ (33554432 ≤ code))) }
     {
         if weight == 0 || code >= WIDE_RANGE {
             return Err(PutRefusal::Unfit);
@@ -91,8 +91,11 @@ impl Entries {
     /// Adds the weight to the entry at this place, which has this code.
     pub fn raise(&mut self, at: usize, entry: Entry) -> Result<(), PutRefusal>
         requires { Fit entry × Found (take self.old.count self.old.places) entry.code (Ok at) }
-        ensures answer { result ≡ put_answer (weigh self.old.places self.old.count) 33554432 entry.code entry.weight }
-        ensures weights { (c : ℕ) → weigh self.new.places self.new.count c ≡ put_bag result (weigh self.old.places self.old.count) entry.code entry.weight c }
+        ensures answer { put_refused result
+            ≡ put_refusal (weigh self.old.places self.old.count) 33554432 entry.code entry.weight }
+        ensures weights { let w = weigh self.old.places self.old.count in (c : ℕ)
+            → weigh self.new.places self.new.count c
+            ≡ put_bag (put_refused result) w entry.code entry.weight c }
         ensures rising { Rising self.old.places self.old.count → Rising self.new.places self.new.count }
     {
         self.sum = heavier(self.sum, entry.weight)?;
@@ -103,9 +106,14 @@ impl Entries {
     /// Inserts the entry at this place, and moves those from there on one place on.
     pub fn insert(&mut self, at: usize, entry: Entry) -> Result<(), PutRefusal>
         requires { Fit entry × Found (take self.old.count self.old.places) entry.code (Err at) }
-        ensures answer { result ≡ put_answer (weigh self.old.places self.old.count) 33554432 entry.code entry.weight }
-        ensures weights { (c : ℕ) → weigh self.new.places self.new.count c ≡ put_bag result (weigh self.old.places self.old.count) entry.code entry.weight c }
-        ensures rising { Seat (take self.old.count self.old.places) entry.code (Err at) → Rising self.old.places self.old.count → Rising self.new.places self.new.count }
+        ensures answer { put_refused result
+            ≡ put_refusal (weigh self.old.places self.old.count) 33554432 entry.code entry.weight }
+        ensures weights { let w = weigh self.old.places self.old.count in (c : ℕ)
+            → weigh self.new.places self.new.count c
+            ≡ put_bag (put_refused result) w entry.code entry.weight c }
+        ensures rising { Seat (take self.old.count self.old.places) entry.code (Err at)
+            → Rising self.old.places self.old.count
+            → Rising self.new.places self.new.count }
     {
         if self.count == MOST_CODES {
             return Err(PutRefusal::Full);

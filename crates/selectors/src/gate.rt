@@ -9,7 +9,7 @@ use crate::limits::{WIDE_RANGE, ranked};
 use crate::refusals::{PutRefusal, SelectRefusal};
 use crate::selector::Selector;
 
-/// A selector over the codes below 33,554,432 that keeps the codes that have weight, in the order in which they came.
+/// A selector over the codes below 33,554,432 that keeps the codes that have weight.
 #[derive(Clone, Copy)]
 pub struct Gate {
     entries: Entries,

@@ -1,6 +1,6 @@
 //! The limits of every selector, and the range of the gate and the ladder.
 ghost use Rattle.std.specs.Prelude.{◌≡◌, ◌+◌, ◌<◌, ◌≤◌, ◌⊎◌, MatchResult};
-ghost use Rattle.selectors.specs.declared.refusals.PutRefusal.TheVariants.{Heavy};
+ghost use Rattle.selectors.specs.Calls.{put_number, select_number};
 
 use crate::refusals::{PutRefusal, SelectRefusal};
 
@@ -16,7 +16,8 @@ pub const WIDE_RANGE: u32 = 33_554_432;
 /// The total with this amount more.
 pub fn heavier(sum: u32, amount: u32) -> Result<u32, PutRefusal>
     requires { sum ≤ 65535 }
-    ensures { MatchResult result (λ t. (t ≡ sum + amount) × (t ≤ 65535)) (λ e. (e ≡ Heavy) × (65535 < sum + amount)) }
+    ensures { MatchResult result (λ t. (t ≡ sum + amount) × (t ≤ 65535))
+        (λ e. (put_number e ≡ 4) × (65535 < sum + amount)) }
 {
     if amount > MOST_WEIGHT - sum {
         return Err(PutRefusal::Heavy);
@@ -26,7 +27,8 @@ pub fn heavier(sum: u32, amount: u32) -> Result<u32, PutRefusal>
 
 /// That a selector of this total has the rank.
 pub fn ranked(rank: u32, total: u32) -> Result<(), SelectRefusal>
-    ensures { MatchResult result (λ _. (0 < rank) × (rank ≤ total)) (λ _. (rank ≡ 0) ⊎ (total < rank)) }
+    ensures { MatchResult result (λ _. (0 < rank) × (rank ≤ total))
+        (λ e. (select_number e ≡ 5) × ((rank ≡ 0) ⊎ (total < rank))) }
 {
     if rank == 0 || rank > total {
         return Err(SelectRefusal::Unranked);

@@ -1,7 +1,7 @@
 //! The interface of every selector: what it means, and what each call does to that meaning.
 ghost use Rattle.std.specs.Prelude.{◌≡◌, ℕ, ◌≤◌};
 ghost use Rattle.selectors.specs.Bag.{below, held};
-ghost use Rattle.selectors.specs.Calls.{put_answer, put_bag, Selected};
+ghost use Rattle.selectors.specs.Calls.{put_bag, put_refusal, put_refused, Selected};
 
 use crate::refusals::{PutRefusal, SelectRefusal};
 
@@ -30,8 +30,10 @@ pub trait Selector {
     /// Adds `amount` to the weight of `code`.
     fn put(&mut self, code: u32, amount: u32) -> Result<(), PutRefusal>
         requires { ordered self.old }
-        ensures answer { result ≡ put_answer (weight self.old) (range self.old) code amount }
-        ensures weights { (c : ℕ) → weight self.new c ≡ put_bag result (weight self.old) code amount c }
+        ensures answer { put_refused result
+            ≡ put_refusal (weight self.old) (range self.old) code amount }
+        ensures weights { (c : ℕ) → weight self.new c
+            ≡ put_bag (put_refused result) (weight self.old) code amount c }
         ensures range_kept { range self.new ≡ range self.old }
         ensures in_order { ordered self.new };
 

@@ -1,10 +1,10 @@
-use Rattle.std.proofs.Common.{rules, ◌≡◌, ℕ, length, get_or, Ok, Err, sym, refl, ap, ◌∙◌, subst, arith}
+use Rattle.std.proofs.Common.{rules, ◌≡◌, ℕ, length, get_or, Some, None, Ok, Err, sym, refl, ap, ◌∙◌, subst, arith}
 use Rattle.std.specs.Result.{result_map_both}
 use mathlib.Core.Path.{fun_ext}
 use Rattle.selectors.specs.declared.median.MedianRefusal.TheVariants.{Refused, NoEntries}
 use Rattle.selectors.specs.declared.refusals.PutRefusal.{PutRefusal}
 use Rattle.selectors.specs.Bag.{below, added}
-use Rattle.selectors.specs.Calls.{put_answer, Selected}
+use Rattle.selectors.specs.Calls.{put_number, put_refusal, Selected}
 use Rattle.selectors.specs.Entries.{blank, weigh}
 use Rattle.selectors.specs.Median.{Taken}
 use Rattle.selectors.proofs.Ranks.{one_answer, answer_has_weight}
@@ -25,10 +25,10 @@ returns-in_err-map_err g c =
     let range : s.range c.loop-index.selector ≡ s.range c.args.selector.now = inv.1 ∙ keep in
     let put = c.put.ensures in
     let told : (e : PutRefusal) × (c.put.result ≡ Err e) × (c.from_residual.result ≡ Err (Refused i e)) = search rules in
-    let answer : Err told.0 ≡ put_answer (s.weight c.loop-index.selector) (s.range c.loop-index.selector) (get_or es i blank).code (get_or es i blank).weight = rw told.1 at put.answer in
+    let answer : Some (put_number told.0) ≡ put_refusal (s.weight c.loop-index.selector) (s.range c.loop-index.selector) (get_or es i blank).code (get_or es i blank).weight = rw told.1 at put.answer in
     let kept : (d : ℕ) → s.weight c.put.new.self d ≡ s.weight c.loop-index.selector d = λ d. rw told.1 at (put.weights d) in
     rw told.2 (record {
-      answer = (c.loop-index-test.true, subst (λ R. Taken es R i) keep inv.3, put_next es (s.weight c.loop-index.selector) (s.range c.loop-index.selector) (s.range c.args.selector.now) i (Err told.0) inv.2 range answer);
+      answer = (c.loop-index-test.true, subst (λ R. Taken es R i) keep inv.3, put_next es (s.weight c.loop-index.selector) (s.range c.loop-index.selector) (s.range c.args.selector.now) i (Some (put_number told.0)) inv.2 range answer);
       weights = λ d. kept d ∙ inv.2 d;
       range_kept = put.range_kept ∙ range;
       in_order = put.in_order;
@@ -46,12 +46,12 @@ loop-index-preserved g c =
     let code = (get_or es i blank).code in
     let a = (get_or es i blank).weight in
     let ok : c.put.result ≡ Ok tt = search rules in
-    let answer : Ok tt ≡ put_answer (s.weight c.loop-index.selector) (s.range c.loop-index.selector) code a = rw ok at put.answer in
+    let answer : None ≡ put_refusal (s.weight c.loop-index.selector) (s.range c.loop-index.selector) code a = rw ok at put.answer in
     let more : (d : ℕ) → s.weight c.put.new.self d ≡ added (s.weight c.loop-index.selector) code a d = λ d. rw ok at (put.weights d) in (
       put.in_order,
       put.range_kept ∙ inv.1,
       λ d. more d ∙ ap (λ w. added w code a d) (fun_ext inv.2) ∙ sym (weigh_next es i d),
-      taken_more es (s.range c.empty.new.self) i inv.3 (put_next es (s.weight c.loop-index.selector) (s.range c.loop-index.selector) (s.range c.empty.new.self) i (Ok tt) inv.2 inv.1 answer),
+      taken_more es (s.range c.empty.new.self) i inv.3 (put_next es (s.weight c.loop-index.selector) (s.range c.loop-index.selector) (s.range c.empty.new.self) i None inv.2 inv.1 answer),
     )
 
 pub returns : goal.returns
