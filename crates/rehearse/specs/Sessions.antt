@@ -28,6 +28,10 @@ Asks ws c = (name : Bor (List ℕ)) × (others : Rest) × (ws ≡ name ∷ other
 abbrev pub Empty : Rest → Type 0
 Empty ws = (ws ≡ []) ⊎ ((name : Bor (List ℕ)) × (others : Rest) × (ws ≡ name ∷ others) × ((more : List ℕ) × (name.now ≡ codes "#" ++ more)))
 
+-- there are words, the first begins otherwise, and they say no command
+abbrev pub SaysNothing : Rest → Type 0
+SaysNothing ws = (Empty ws → ⊥) × ((c : Command) → Asks ws c → ⊥)
+
 module _ {T R S : Type 0} (K : Kind T R) (Written : Rest → R → Type 0) (shown : R → List ℕ) (Zero : R → Type 0)
     (residues : Option Notes → List R → List ℤ → Result (Unit {0}) Fault → List ℤ → Type 0) (loads : State R → ℕ → ℕ → List ℕ → Result (Unit {0}) Fault → State R → Type 0)
     (weight : S → ℕ → ℕ) (range : S → ℕ) where
@@ -45,4 +49,4 @@ module _ {T R S : Type 0} (K : Kind T R) (Written : Rest → R → Type 0) (show
   abbrev pub Played : Rest → Seen T R S → Desk → Line → Seen T R S → Desk → Type 0
   Played ws p d line.Empty q e = Empty ws × (q ≡ p) × (e ≡ d)
   Played ws p d (line.Next c) q e = Asks ws (Choose c) × (q ≡ p) × (e ≡ d)
-  Played ws p d (line.Told r) q e = ((r ≡ Err Unknown) × (q ≡ p) × (e ≡ d)) ⊎ ((c : Command) × Asks ws c × Commanded p d c r q e)
+  Played ws p d (line.Told r) q e = (SaysNothing ws × (r ≡ Err Unknown) × (q ≡ p) × (e ≡ d)) ⊎ ((c : Command) × Asks ws c × Commanded p d c r q e)
