@@ -1,12 +1,12 @@
 -- What the name of a line and the words after it say. Assumes nothing.
-use Rattle.std.specs.Prelude.{◌≡◌, ℕ, ◌≤◌, List, length, drop, codes}
+use Rattle.std.specs.Prelude.{◌≡◌, ℕ, ◌≤◌, List, length, drop, codes, encode_utf8}
+use Rattle.std.specs.Char.{IsScalar}
 use Rattle.std.specs.Int.{w32}
 use Rattle.selectors.specs.Played.{name_of}
 use Rattle.selectors.specs.declared.calls.Call.{Call as SelectorCall}
 use Rattle.selectors.specs.declared.calls.Call.TheVariants.{Put, Total, Select, Empty}
 use Rattle.recipes.specs.Parts.{part_name}
 use Rattle.lines.specs.Words.{Rest, Natural, Integer, word, tones_name}
-use Rattle.std.proofs.Math.Utf8.{encode}
 use Rattle.lines.specs.declared.commands.Choice.{Choice}
 use Rattle.lines.specs.declared.commands.Edit.{Edit}
 use Rattle.lines.specs.declared.commands.Edit.TheVariants.{Element, Place, Amount, Order, Standard}
@@ -40,7 +40,7 @@ Edits name ws (Standard i) = Named name ws (codes "standard") 1 × Natural 32 (w
 -- a call on a draft
 abbrev pub Drafts : List ℕ → Rest → Drafting → Type 0
 Drafts name ws (Begin n) = Named name ws (codes "begin") 1 × Natural 64 (word ws 0) n
-Drafts name ws (Step l) = Named name ws (codes "step") 1 × (word ws 0 ≡ encode l)
+Drafts name ws (Step l) = Named name ws (codes "step") 1 × IsScalar l × (word ws 0 ≡ encode_utf8 l)
 
 -- a call on a card: the words of the rows of open and patch, of the parts of a tone, and the path of a file come last
 abbrev pub Calls : List ℕ → Rest → Call → Type 0

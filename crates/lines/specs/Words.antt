@@ -6,6 +6,11 @@ use Rattle.std.specs.Str.Parse.{IsNumeral, digits_value, without_leading_plus, w
 use Rattle.lines.specs.declared.commands.Tones.{Tones}
 use Rattle.lines.specs.declared.commands.Tones.TheVariants.{Mark, Grey, Relief, Colour}
 
+-- all that is written is read: what is read is written so, and nothing is read only where nothing is written so
+abbrev pub ReadsAll : {A : Type 0} → (A → Type 0) → Option A → Type 0
+ReadsAll written (Some a) = written a
+ReadsAll {A} written None = (a : A) → written a → ⊥
+
 -- what a type reads in a word: the value, or nothing where it reads none
 abbrev pub Read : {N E : Type 0} → (List ℕ → Result N E → Type 0) → List ℕ → Option N → Type 0
 Read reads w (Some n) = reads w (Ok n)

@@ -1,7 +1,7 @@
 //! Reads the words of a line: its name, and the rest.
 
-ghost use Rattle.std.specs.Prelude.{IfSome};
 ghost use Rattle.lines.specs.Lines.{Calls, Chooses, Drafts, Edits, Ranks, Says};
+ghost use Rattle.lines.specs.Words.{ReadsAll};
 
 use crate::commands::{Call, Choice, Command, Drafting, Edit, Opening, Patch};
 use crate::words::number;
@@ -9,7 +9,7 @@ use selectors::calls::Call as SelectorCall;
 
 /// The choice of a card.
 pub fn read_choice(name: &str, rest: &[&str]) -> Option<Choice>
-    ensures { IfSome result (λ c. Chooses name.now rest.now c) }
+    ensures { ReadsAll (Chooses name.now rest.now) result }
 {
     match (name, rest) {
         ("card", [tones, selector]) => Some(Choice {
@@ -22,7 +22,7 @@ pub fn read_choice(name: &str, rest: &[&str]) -> Option<Choice>
 
 /// The call on an element.
 pub fn read_edit(name: &str, rest: &[&str]) -> Option<Edit>
-    ensures { IfSome result (λ c. Edits name.now rest.now c) }
+    ensures { ReadsAll (Edits name.now rest.now) result }
 {
     match (name, rest) {
         ("element", []) => Some(Edit::Element),
@@ -43,7 +43,7 @@ pub fn read_edit(name: &str, rest: &[&str]) -> Option<Edit>
 
 /// The call on a draft.
 pub fn read_drafting(name: &str, rest: &[&str]) -> Option<Drafting>
-    ensures { IfSome result (λ c. Drafts name.now rest.now c) }
+    ensures { ReadsAll (Drafts name.now rest.now) result }
 {
     match (name, rest) {
         ("begin", [steps]) => Some(Drafting::Begin(number(steps)?)),
@@ -54,7 +54,7 @@ pub fn read_drafting(name: &str, rest: &[&str]) -> Option<Drafting>
 
 /// The call on a selector.
 pub fn read_selector_call(name: &str, rest: &[&str]) -> Option<SelectorCall>
-    ensures { IfSome result (λ c. Ranks name.now rest.now c) }
+    ensures { ReadsAll (Ranks name.now rest.now) result }
 {
     match (name, rest) {
         ("put", [code, weight]) => Some(SelectorCall::Put(number(code)?, number(weight)?)),
@@ -67,7 +67,7 @@ pub fn read_selector_call(name: &str, rest: &[&str]) -> Option<SelectorCall>
 
 /// The call on a card.
 pub fn read_call<'a>(name: &str, rest: &'a [&'a str]) -> Option<Call<'a>>
-    ensures { IfSome result (λ c. Calls name.now rest.now c) }
+    ensures { ReadsAll (Calls name.now rest.now) result }
 {
     match (name, rest) {
         ("open", [width, height, stages, rows @ ..]) => {
@@ -101,7 +101,7 @@ pub fn read_call<'a>(name: &str, rest: &'a [&'a str]) -> Option<Call<'a>>
 
 /// The command that the words say.
 pub fn read_command<'a>(name: &str, rest: &'a [&'a str]) -> Option<Command<'a>>
-    ensures { IfSome result (λ c. Says name.now rest.now c) }
+    ensures { ReadsAll (Says name.now rest.now) result }
 {
     // No chain of `or_else`: the check covers no closure whose result alone names a lifetime.
     if let Some(choice) = read_choice(name, rest) {

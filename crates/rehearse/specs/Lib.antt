@@ -1,3 +1,4 @@
+pub mod Cuts
 pub mod Plays
 pub mod Rooms
 pub mod Seen

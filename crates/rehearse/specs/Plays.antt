@@ -54,9 +54,9 @@ TellsDue K s r = (d : Option (ℕ × ℕ)) × (r ≡ told.Due d) × Outcome K s 
 abbrev pub Ranks : (ℕ → ℕ) → ℕ → SelectorCall → Result Answer Fault → Type 0
 Ranks w R call r = (x : Result Reply CallRefusal) × Answered w R call x × (r ≡ selector_told x)
 
--- a call that is not made: its words were not read, or there was no memory for it
-abbrev pub NotMade : Result Answer Fault → Type 0
-NotMade r = (f : Fault) × (r ≡ Err f) × NotRead f
+-- a call that is not made: its words write nothing so, or there was no memory for it
+abbrev pub NotMade : {A : Type 0} → (A → Type 0) → Result Answer Fault → Type 0
+NotMade written r = (f : Fault) × (r ≡ Err f) × NotRead written f
 
 -- rows are told by their text
 abbrev pub RowsTold : {R : Type 0} → (R → List ℕ) → List R → Result Answer Fault → Type 0
@@ -64,7 +64,7 @@ RowsTold shown rows r = MatchResult r (λ a. (t : String Global) × (a ≡ told.
 
 -- a patch of the rows that the words write
 abbrev pub Patches : {T R : Type 0} → Kind T R → (Rest → List R → Type 0) → State R → Rectangle → Rest → Result Answer Fault → State R → Type 0
-Patches {R = R} K Written s p ws r t = (NotMade r × (t ≡ s)) ⊎ ((rows : List R) × Written ws rows × Plays K s (Patch p.x p.y p.width p.height rows) r t)
+Patches {R = R} K Written s p ws r t = (NotMade (Written ws) r × (t ≡ s)) ⊎ ((rows : List R) × Written ws rows × Plays K s (Patch p.x p.y p.width p.height rows) r t)
 
 -- a piece of the finished card
 abbrev pub PieceTold : {R : Type 0} → (R → List ℕ) → Result (Bor (List R)) Refusal → Result Answer Fault → Type 0
@@ -88,7 +88,7 @@ pub record Opened {T R : Type 0} (K : Kind T R) (range : ℕ) (s : State R) (o :
 
 -- a card is opened with the rows that the words write
 abbrev pub Opens : {T R : Type 0} → Kind T R → ℕ → (R → Type 0) → (Rest → List R → Type 0) → State R → Opening → Rest → Result Answer Fault → State R → Type 0
-Opens {R = R} K range Zero Written s o ws r t = (NotMade r × (t ≡ s)) ⊎ ((rows : List R) × (zero : R) × (x : Result (Unit {0}) Refusal) × Written ws rows × Zero zero × (r ≡ call_told x) × Opened K range s o (lent (room_of o.width o.height o.stages) zero rows) x t)
+Opens {R = R} K range Zero Written s o ws r t = (NotMade (Written ws) r × (t ≡ s)) ⊎ ((rows : List R) × (zero : R) × (x : Result (Unit {0}) Refusal) × Written ws rows × Zero zero × (r ≡ call_told x) × Opened K range s o (lent (room_of o.width o.height o.stages) zero rows) x t)
 
 -- the number of the card's pixels after it
 abbrev pub area_after : Result Answer Fault → Opening → ℕ → ℕ
@@ -121,7 +121,8 @@ ToneTold K row (Ok t) r = (K.row t ≡ row) × (r ≡ Ok (told.Counted (K.code t
 ToneTold {T = T} K row (Err e) r = ((t : T) → K.row t ≢ row) × (r ≡ Err (Tone e))
 
 abbrev pub TellsTone : {T R : Type 0} → Kind T R → (Rest → R → Type 0) → Rest → Result Answer Fault → Type 0
-TellsTone {T} {R} K Written ws r = (r ≡ Err Unknown) ⊎ ((row : R) × (x : Result T ToneRefusal) × Written ws row × ToneTold K row x r)
+TellsTone {T} {R} K Written ws r = ((r ≡ Err Unknown) × ((row : R) → Written ws row → ⊥))
+    ⊎ ((row : R) × (x : Result T ToneRefusal) × Written ws row × ToneTold K row x r)
 
 -- the present draft after a call: an install hands it over
 abbrev pub draft_after : Asked → Option Draft → Option Draft

@@ -15,6 +15,8 @@ use Rattle.lines.specs.declared.answers.Fault.TheVariants.{Unknown}
 use Rattle.lines.specs.declared.commands.Command.{Command}
 use Rattle.lines.specs.declared.commands.Command.TheVariants.{Choose, OnElement, OnDraft, OnCard, OnSelector}
 use Rattle.lines.specs.declared.desk.Desk.{Desk}
+use Rattle.std.specs.Str.{IsUtf8}
+use Rattle.rehearse.specs.Cuts.{CutInto}
 use Rattle.rehearse.specs.Plays.{Made, Ranks, draft_after}
 use Rattle.rehearse.specs.Seen.{Seen}
 use Rattle.rehearse.specs.declared.session.Line.{Line}
@@ -27,6 +29,10 @@ Asks ws c = (name : Bor (List ℕ)) × (others : Rest) × (ws ≡ name ∷ other
 -- there are no words, or the first begins with #
 abbrev pub Empty : Rest → Type 0
 Empty ws = (ws ≡ []) ⊎ ((name : Bor (List ℕ)) × (others : Rest) × (ws ≡ name ∷ others) × ((more : List ℕ) × (name.now ≡ codes "#" ++ more)))
+
+-- there are words, the first begins otherwise, and they say no command
+abbrev pub SaysNothing : Rest → Type 0
+SaysNothing ws = (Empty ws → ⊥) × ((c : Command) → Asks ws c → ⊥)
 
 module _ {T R S : Type 0} (K : Kind T R) (Written : Rest → R → Type 0) (shown : R → List ℕ) (Zero : R → Type 0)
     (residues : Option Notes → List R → List ℤ → Result (Unit {0}) Fault → List ℤ → Type 0) (loads : State R → ℕ → ℕ → List ℕ → Result (Unit {0}) Fault → State R → Type 0)
@@ -49,4 +55,9 @@ module _ {T R S : Type 0} (K : Kind T R) (Written : Rest → R → Type 0) (show
   abbrev pub Played : Rest → Seen T R S → Desk → Line → Seen T R S → Desk → Type 0
   Played ws p d line.Empty q e = Empty ws × (q ≡ p) × (e ≡ d)
   Played ws p d (line.Next c) q e = Asks ws (Choose c) × (q ≡ p) × (e ≡ d)
-  Played ws p d (line.Told r) q e = ((r ≡ Err Unknown) × (q ≡ p) × (e ≡ d)) ⊎ ((c : Command) × Asks ws c × Commanded p d c r q e)
+  Played ws p d (line.Told r) q e = (SaysNothing ws × (r ≡ Err Unknown) × (q ≡ p) × (e ≡ d)) ⊎ ((c : Command) × Asks ws c × Commanded p d c r q e)
+
+  -- a line of these bytes is played: the words that it is cut into, or it is no text, and not read
+  abbrev pub LinePlayed : List ℕ → Seen T R S → Desk → Line → Seen T R S → Desk → Type 0
+  LinePlayed bytes p d l q e = (¬ (IsUtf8 bytes) × (l ≡ line.Told (Err Unknown)) × (q ≡ p) × (e ≡ d))
+      ⊎ (IsUtf8 bytes × ((ws : Rest) × CutInto bytes ws × Played ws p d l q e))

@@ -1,6 +1,11 @@
 //! The script: standard input, line by line.
 
-use std::alloc::Global;
+ghost use Rattle.rehearse.specs.Cuts.{CutInto};
+ghost use Rattle.std.specs.Io.{StopsAt};
+ghost use Rattle.std.specs.Prelude.{◌≡◌, ◌<◌, ◌≤◌, ◌↔◌, [], IfOk, IfSome, IsTrue, MatchOption, length};
+ghost use Rattle.std.specs.Str.{IsUtf8};
+
+use std::alloc::{AllocError, Global};
 use std::fs::File;
 use std::io;
 use std::io::{BufRead, BufReader, Read, Stdin};
@@ -17,27 +22,48 @@ pub struct Script {
 
 impl Script {
     /// The script on standard input.
-    pub fn new(rt: &HostRuntime) -> io::Result<Script> {
+    pub fn new(rt: &HostRuntime) -> io::Result<Script>
+        ensures { IfOk result (λ script. script.line.items ≡ []) }
+    {
         Ok(Script {
             input: BufReader::new(rt.alloc(), rt.stdin())?,
             line: Vec::new(rt.alloc()),
         })
     }
 
-    /// Goes to the next line; false at the end.
-    pub fn advance(&mut self) -> io::Result<bool> {
+    /// Goes to the next line, which ends at its first line feed; false at the end.
+    pub fn advance(&mut self) -> io::Result<bool>
+        ensures more { IfOk result (λ more. IsTrue more ↔ 0 < length self.new.line.items) }
+        ensures line { StopsAt self.new.line.items 10 }
+    {
         self.line.clear();
         Ok(self.input.read_until(b'\n', &mut self.line)? > 0)
     }
 
     /// The present line, where it is text.
-    pub fn text(&self) -> Option<&str> {
+    pub fn text(&self) -> Option<&str>
+        ensures { MatchOption result (¬ (IsUtf8 self.now.line.items)) (λ text. text.now ≡ self.now.line.items) }
+    {
         std::str::from_utf8(self.line.as_slice()).ok()
     }
 }
 
+/// The words of a text.
+pub fn words_of<'a>(heap: Global, text: &'a str) -> Result<Vec<&'a str>, AllocError>
+    ensures { IfOk result (λ words. CutInto text.now words.items) }
+{
+    let mut words = Vec::new(heap);
+    // A loop: of a `collect` a proof does not know enough to say which words there are.
+    for word in text.split_whitespace() {
+        words.push(word).map_err(AllocError::from)?;
+    }
+    Ok(words)
+}
+
 /// The bytes of a file; none where it cannot be read or is too long.
-pub fn bytes_of(rt: &HostRuntime, path: &str) -> Option<Vec<u8>> {
+pub fn bytes_of(rt: &HostRuntime, path: &str) -> Option<Vec<u8>>
+    ensures { IfSome result (λ bytes. length bytes.items ≤ LONGEST) }
+{
     bytes_up_to(rt, path)
         .ok()
         .filter(|bytes| bytes.len() as u64 <= LONGEST)

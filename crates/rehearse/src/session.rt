@@ -1,12 +1,13 @@
 //! Plays the lines of a script on one card, until another is asked for.
 
-ghost use Rattle.std.specs.Prelude.{◌≡◌};
+ghost use Rattle.std.specs.Prelude.{◌≡◌, MatchResult};
 ghost use Rattle.cards.specs.Meanings.{state_of};
+ghost use Rattle.lines.specs.Told.{played_after, refused_after};
 ghost use Rattle.rehearse.specs.Plays.{Made, draft_after};
-ghost use Rattle.rehearse.specs.Sessions.{Played};
+ghost use Rattle.rehearse.specs.Sessions.{LinePlayed, Played};
 
 use crate::player::Player;
-use crate::script::{Script, bytes_of};
+use crate::script::{Script, bytes_of, words_of};
 use lines::answers::{Answer, Fault};
 use lines::commands::{Call, Choice, Command};
 use lines::desk::Desk;
@@ -28,7 +29,11 @@ pub struct Evening {
 
 impl Evening {
     /// Counts what is told of a line, and prints it. Where there was no memory for a call, the program ends.
-    pub fn tell(&mut self, rt: &HostRuntime, told: Result<Answer, Fault>) -> io::Result<()> {
+    pub fn tell(&mut self, rt: &HostRuntime, told: Result<Answer, Fault>) -> io::Result<()>
+        ensures played { self.new.tally.played ≡ played_after told self.old.tally.played }
+        ensures refused { self.new.tally.refused ≡ refused_after told self.old.tally.refused }
+        ensures kept { (self.new.desk ≡ self.old.desk) × (self.new.script ≡ self.old.script) }
+    {
         self.tally.count(&told);
         match told {
             Ok(answer) => println!(rt; "{answer}"),
@@ -102,16 +107,19 @@ fn play<T: Rows, S: Selector>(
     }
 }
 
-/// Plays the present line.
+/// Plays the present line. One that is no text is not read.
 fn play_line<T: Rows, S: Selector>(
     rt: &HostRuntime,
     player: &mut Player<T, S>,
     evening: &mut Evening,
-) -> Result<Line, AllocError> {
+) -> Result<Line, AllocError>
+    ensures line { MatchResult result (λ line. LinePlayed T.Tone.kind T.Rows.written T.Rows.shown T.Row.Default.is_default T.Rows.residues T.Rows.loads S.Selector.weight S.Selector.range evening.old.script.line.items player.old evening.old.desk line player.new evening.new.desk) (λ _. (player.new ≡ player.old) × (evening.new.desk ≡ evening.old.desk)) }
+    ensures kept { (evening.new.tally ≡ evening.old.tally) × (evening.new.script ≡ evening.old.script) }
+{
     let Some(text) = evening.script.text() else {
         return Ok(Line::Told(Err(Fault::Unknown)));
     };
-    let words: Vec<&str> = text.split_whitespace().collect(rt.alloc())?;
+    let words = words_of(rt.alloc(), text)?;
     Ok(play(rt, player, &mut evening.desk, words.as_slice()))
 }
 

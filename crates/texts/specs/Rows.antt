@@ -1,9 +1,9 @@
 -- How the rows of each kind are written and shown as words. Assumes nothing.
-use Rattle.std.specs.Prelude.{◌≡◌, ◌⊎◌, ℕ, Bool, if◌then◌else◌, List, [], ◌∷◌, ◌++◌, length, ℤ, codes}
+use Rattle.std.specs.Prelude.{◌≡◌, ◌⊎◌, ℕ, ◌<◌, Bool, if◌then◌else◌, List, [], ◌∷◌, ◌++◌, length, ℤ, Some, None, Ok, Option, Result, codes}
 use Rattle.std.specs.Fmt.{decimal, signed_decimal}
 use Rattle.std.specs.Int.{w16}
 use Rattle.std.specs.List.{flat_map}
-use Rattle.lines.specs.Words.{Rest, Natural, Integer, word}
+use Rattle.lines.specs.Words.{Rest, Read, Natural, Integer, word}
 use Rattle.lines.specs.declared.answers.Fault.{Fault}
 use Rattle.lines.specs.declared.answers.Fault.TheVariants.{Unknown, Memory}
 use Rattle.std.specs.declared.alloc.AllocError.{AllocError}
@@ -24,6 +24,15 @@ ReliefWritten ws z = (length ws ≡ 1) × Integer w16 (word ws 0) z
 -- a colour: its hue, its saturation and its brightness
 abbrev pub ColourWritten : Rest → ColourRow → Type 0
 ColourWritten ws r = (length ws ≡ 3) × Natural 16 (word ws 0) r.hue × Natural 8 (word ws 1) r.saturation × Natural 8 (word ws 2) r.brightness
+
+-- what a type reads in the only word
+abbrev pub ReadsOnly : {N E : Type 0} → (List ℕ → Result N E → Type 0) → Rest → Option N → Type 0
+ReadsOnly reads ws (Some n) = (length ws ≡ 1) × reads (word ws 0) (Ok n)
+ReadsOnly reads ws None = length ws ≡ 1 → Read reads (word ws 0) None
+
+-- a row is written by so many words, at least one
+abbrev pub HasParts : {R : Type 0} → (Rest → R → Type 0) → ℕ → Type 0
+HasParts {R} Written n = (0 < n) × ((ws : Rest) (row : R) → Written ws row → length ws ≡ n)
 
 -- a number after a space
 abbrev pub spaced : ℕ → List ℕ
@@ -47,6 +56,6 @@ RowsWritten Written ws (row ∷ rows) = (first others : Rest) × (ws ≡ first +
 abbrev pub rows_text : {R : Type 0} → (R → List ℕ) → List R → List ℕ
 rows_text shown rows = flat_map shown rows
 
--- the words were not read, or there was no memory
-abbrev pub NotRead : Fault → Type 0
-NotRead f = (f ≡ Unknown) ⊎ ((m : AllocError) × (f ≡ Memory m))
+-- the words write nothing so, or there was no memory to read it
+abbrev pub NotRead : {A : Type 0} → (A → Type 0) → Fault → Type 0
+NotRead {A} written f = ((f ≡ Unknown) × ((a : A) → written a → ⊥)) ⊎ ((m : AllocError) × (f ≡ Memory m))

@@ -9,7 +9,7 @@ use std::alloc::{AllocError, Global};
 
 /// The rows that the words write; not read where one of them cannot be.
 pub fn rows_read<T: Rows>(heap: Global, words: &[&str]) -> Result<Vec<T::Row>, Fault>
-    ensures { MatchResult result (λ rows. RowsWritten T.Rows.written words.now rows.items) NotRead }
+    ensures { MatchResult result (λ rows. RowsWritten T.Rows.written words.now rows.items) (NotRead (RowsWritten T.Rows.written words.now)) }
 {
     let mut rows = Vec::new(heap);
     // A loop: of a `try_collect` a proof does not know enough to say what was read.

@@ -1,12 +1,13 @@
 //! How the rows of each kind of tones are read and printed, and what only greys can do.
 
-ghost use Rattle.std.specs.Prelude.{◌≡◌, ◌<◌, ◌≢◌, ◌++◌, ℕ, ℤ, List, Option, Result, Ok, IfOk, IfSome, MatchResult, length, string_bytes};
+ghost use Rattle.std.specs.Prelude.{◌≡◌, ◌≢◌, ◌++◌, ℕ, ℤ, List, Option, Result, IfOk, MatchResult, string_bytes};
 ghost use Rattle.calls.specs.Calls.{Notes, State};
 ghost use Rattle.cards.specs.Meanings.{InOrder, notes, state_of};
-ghost use Rattle.lines.specs.Words.{Rest, word};
+ghost use Rattle.lines.specs.Words.{ReadsAll, Rest};
 ghost use Rattle.lines.specs.declared.answers.Fault.{Fault as Refused};
+ghost use Rattle.std.proofs.Common.{rules};
 ghost use Rattle.texts.specs.Cards.{GreyLoad, GreyResidue, NoLoad, NoResidue};
-ghost use Rattle.texts.specs.Rows.{ColourWritten, GreyWritten, MarkWritten, ReliefWritten, colour_shown, mark_shown, relief_shown, spaced};
+ghost use Rattle.texts.specs.Rows.{ColourWritten, GreyWritten, HasParts, MarkWritten, ReadsOnly, ReliefWritten, colour_shown, mark_shown, relief_shown, spaced};
 
 use cards::card::Card;
 use lines::answers::Fault;
@@ -22,6 +23,9 @@ pub trait Rows: Tone<Row: Default> {
     /// Words write a row.
     ghost written: { Rest → Self.Row → Type 0 };
 
+    /// How many numbers a row has.
+    ghost count: { ℕ };
+
     /// The text that shows a row: its numbers, each after a space.
     ghost shown: { Self.Row → List ℕ };
 
@@ -33,14 +37,11 @@ pub trait Rows: Tone<Row: Default> {
 
     /// How many numbers a row has. No constant, since a law cannot say that a trait's constant is above 0.
     fn parts() -> usize
-        ensures { 0 < result }
-    {
-        1
-    }
+        ensures { result ≡ count };
 
     /// The row that the words write; none where they are too many, too few or no numbers of its parts.
     fn read(words: &[&str]) -> Option<Self::Row>
-        ensures { IfSome result (λ row. written words.now row) };
+        ensures { ReadsAll (written words.now) result };
 
     /// Adds the numbers of the row to a text, each after a space.
     fn show(row: Self::Row, text: &mut String) -> Result<(), AllocError>
@@ -68,16 +69,27 @@ pub trait Rows: Tone<Row: Default> {
     ) -> Result<(), Fault>
         ensures outcome { loads (state_of S.Selector.weight card.old memory.old) x y file.now result (state_of S.Selector.weight card.new memory.new) }
         ensures in_order { InOrder Self.Tone.kind S.Selector.range S.Selector.ordered card.old → InOrder Self.Tone.kind S.Selector.range S.Selector.ordered card.new };
+
+    /// Words that write a row are as many as it has numbers, at least one.
+    ghost sized: { HasParts written count };
 }
 
 impl Rows for Mark {
     ghost written = { MarkWritten };
+
+    ghost count = { 1 };
 
     ghost shown = { mark_shown };
 
     ghost residues = { NoResidue };
 
     ghost loads = { NoLoad };
+
+    ghost sized = { Prim.search rules };
+
+    fn parts() -> usize {
+        1
+    }
 
     fn read(words: &[&str]) -> Option<bool> {
         match words {
@@ -118,7 +130,7 @@ impl Rows for Mark {
 fn only<N: FromStr>(words: &[&str]) -> Option<N>
 where
     N::Err: Drop,
-    ensures { IfSome result (λ n. (length words.now ≡ 1) × N.FromStr.from_str_gives (word words.now 0) (Ok n)) }
+    ensures { ReadsOnly N.FromStr.from_str_gives words.now result }
 {
     match words {
         [word] => number(word),
@@ -129,11 +141,19 @@ where
 impl Rows for Grey {
     ghost written = { GreyWritten };
 
+    ghost count = { 1 };
+
     ghost shown = { spaced };
 
     ghost residues = { GreyResidue };
 
     ghost loads = { GreyLoad };
+
+    ghost sized = { Prim.search rules };
+
+    fn parts() -> usize {
+        1
+    }
 
     fn read(words: &[&str]) -> Option<u8> {
         only(words)
@@ -169,11 +189,19 @@ impl Rows for Grey {
 impl Rows for Relief {
     ghost written = { ReliefWritten };
 
+    ghost count = { 1 };
+
     ghost shown = { relief_shown };
 
     ghost residues = { NoResidue };
 
     ghost loads = { NoLoad };
+
+    ghost sized = { Prim.search rules };
+
+    fn parts() -> usize {
+        1
+    }
 
     fn read(words: &[&str]) -> Option<i16> {
         only(words)
@@ -209,11 +237,15 @@ impl Rows for Relief {
 impl Rows for Colour {
     ghost written = { ColourWritten };
 
+    ghost count = { 3 };
+
     ghost shown = { colour_shown };
 
     ghost residues = { NoResidue };
 
     ghost loads = { NoLoad };
+
+    ghost sized = { Prim.search rules };
 
     fn parts() -> usize {
         3

@@ -3,6 +3,6 @@ use Rattle.lines.specs.Words.{Rest}
 use Rattle.texts.specs.Rows.{RowsWritten}
 use Rattle.texts.proofs.lists.rows_read.Given as goal
 
--- the words before those that are left write the rows so far
+-- the chunks have the words of a row; the words before those that are left write the rows so far
 abbrev pub invariant-loop-part : goal.invariant-loop-part
-invariant-loop-part g l = (before : Rest) × (l.words ≡ before ++ l.part-iterator.rest.now) × RowsWritten g.T.Rows.written before l.rows.items
+invariant-loop-part g l = (l.part-iterator.size ≡ g.T.Rows.count) × (before : Rest) × (l.words ≡ before ++ l.part-iterator.rest.now) × RowsWritten g.T.Rows.written before l.rows.items
