@@ -1,7 +1,10 @@
 //! Why a call on a card is refused, and the number of each refusal.
 
-ghost use Rattle.calls.specs.Refusals.{refusal_number};
+ghost use Rattle.calls.specs.Refusals.{cause, refusal_number};
 ghost use Rattle.std.specs.Prelude.{◌≡◌};
+
+use std::error::Error;
+use std::fmt;
 
 /// Why a call on a card is refused.
 #[derive(Clone, Copy, PartialEq, Eq, Debug)]
@@ -47,4 +50,39 @@ impl Refusal {
             Refusal::Stale(_) => 22,
         }
     }
+
+    /// The cause in words.
+    fn cause(&self) -> &'static str
+        ensures { result.now ≡ cause self.now }
+    {
+        match self {
+            Refusal::Size => "size or stages outside their limits",
+            Refusal::Memory => "memory of another length",
+            Refusal::Range => "range smaller than the number of tones",
+            Refusal::Unopened => "card without size",
+            Refusal::Outside => "empty or not wholly on the card",
+            Refusal::Count => "wrong count of tones",
+            Refusal::TooFewSteps => "fewer steps than declared",
+            Refusal::TooManyStages => "more stages than the card has",
+            Refusal::Amount => "amount outside the span of the tones",
+            Refusal::Stale(_) => "stale from this column on",
+        }
+    }
 }
+
+/// The number and the cause in words, and where a piece is stale the first column met.
+impl fmt::Display for Refusal {
+    ghost use Rattle.std.specs.Prelude.{Some};
+    ghost use Rattle.calls.specs.Refusals.{refusal_text};
+
+    ghost output = { λ e. Some (refusal_text e) };
+
+    fn fmt<W: fmt::Write>(&self, f: &mut fmt::Formatter<W>) -> fmt::Result {
+        match self {
+            Refusal::Stale(column) => write!(f, "{}: {}: {column}", self.number(), self.cause()),
+            _ => write!(f, "{}: {}", self.number(), self.cause()),
+        }
+    }
+}
+
+impl Error for Refusal {}
