@@ -174,8 +174,7 @@ module _ (file : List ℕ) (w h m : ℕ) (samples : List ℕ) (p : Pgm file w h 
         let answer : number r ≡ Number (min left (stale_rows (stale (size w h) H))) = promise.answers_right H at run (Work left) (number r) end works in
         let worked : Run greys at (Worked left ∷ []) end = more none (Work left) (Number (min left (stale_rows (stale (size w h) H)))) end (subst (λ a. Outcome greys at (Work left) a end) answer works) in
         let reach : stale_rows (stale (size w h) H) ≤ budgets {R = ℕ} (Worked left ∷ []) = omega (arith, budget left) in
-        let off = record { mid = at; before = run; since = worked; only = only left; enough = reach } in
-        let clean = promise.comes_clean H (Worked left ∷ []) end off 0 y w (row_on w h y (limits file w h m samples p).wide inside) a to out in
+        let clean = promise.comes_clean H (Worked left ∷ []) end (record { mid = at; before = run; since = worked; only = only left; enough = reach }) 0 y w (row_on w h y (limits file w h m samples p).wide inside) a to out in
         (clean.0, clean.1, record { long = clean.2.long; tones = λ i k. clean.2.tones i k ∙ drawn w h samples d e steps (opening greys (size w h) st) i y })
 
     pub hands_out : (loading : Result (Unit {0}) LoadFault) (at : State ℕ) → Loads file st 0 0 loading at → (r : Result (Unit {0}) Refusal) (to : State ℕ) → Outcome greys at (Install d) (done r) to → (left : ℕ) → Outcome greys to Left (Number left) to → (working : Result ℕ Refusal) (end : State ℕ) → Outcome greys to (Work left) (number working) end → HandsOut end (size w h) (eroded_picture e (size w h) samples)
