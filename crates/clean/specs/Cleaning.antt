@@ -43,7 +43,8 @@ eroded_picture e s samples x y = cleaned greys s (eroding e) (pictured s samples
 abbrev pub eroded : Element → Size → List ℕ → List ℕ
 eroded e s samples = lines greys s (eroded_picture e s samples) s.height
 
--- some tones are those of the picture, eroded by the cross of order 2: there is such an element, and with every one the tones are these
+-- some tones are those of the picture, eroded by the cross of order 2: there is such an element, and
+-- with every one the tones are these
 pub record Eroded (s : Size) (samples tones : List ℕ) : Type 0 where
   pub one : Element
   pub is_cross : CrossOfOrder2 one
@@ -64,4 +65,6 @@ pub record RowOf (s : Size) (f : Shades) (y : ℕ) (p : List ℕ) : Type 0 where
 
 -- a card hands out every row of a picture
 abbrev pub HandsOut : State ℕ → Size → Shades → Type 0
-HandsOut at s f = (y : ℕ) → y < s.height → (a : Answer ℕ) (to : State ℕ) → Outcome greys at (Row 0 y s.width) a to → (p : List ℕ) × (a ≡ Piece p) × RowOf s f y p
+HandsOut at s f =
+    (y : ℕ) → y < s.height → (a : Answer ℕ) (to : State ℕ) → Outcome greys at (Row 0 y s.width) a to
+    → (p : List ℕ) × (a ≡ Piece p) × RowOf s f y p

@@ -1,4 +1,4 @@
-// Cleaning a picture: eroded by the cross of order 2.
+//! Cleaning a picture: eroded by the cross of order 2.
 
 ghost use Rattle.std.specs.Prelude.{◌≡◌, ◌*◌, [], ◌∷◌, length, IfOk, Ok};
 ghost use Rattle.calls.specs.Promise.{Promise};
@@ -11,7 +11,7 @@ ghost use Rattle.recipes.specs.declared.draft.Letter.TheVariants.{Erosion};
 ghost use Rattle.tones.specs.Greys.{greys};
 
 use cards::card::Card;
-use pgm::picture::Picture;
+use pgm::Picture;
 use planes::size::Size;
 use recipes::draft::Draft;
 use recipes::element::Element;
@@ -20,11 +20,12 @@ use std::alloc::Global;
 use std::io;
 use tones::{Grey, Tone};
 
-/// The tones of a file's picture, eroded by the cross of order 2, row by row: over memory for a card of one stage the
-/// file is loaded, the erosion installed, and every row made.
+/// The tones of a file's picture, eroded by the cross of order 2, row by row: over memory for a card
+/// of one stage the file is loaded, the erosion installed, and every row made.
 pub fn cleaned(heap: Global, file: &[u8], picture: Picture<'_>) -> io::Result<Vec<u8>>
     requires { Reads file.now (reading (Ok picture)) }
-    ensures { IfOk result (λ v. Eroded (size picture.entry.width picture.entry.height) picture.entry.samples.now v.items) }
+    ensures { let s = size picture.entry.width picture.entry.height in
+        IfOk result (λ v. Eroded s picture.entry.samples.now v.items) }
 {
     let size = Size {
         width: picture.width,
@@ -80,7 +81,8 @@ fn rows(
     size: Size,
 ) -> io::Result<Vec<u8>>
     requires { (f : Shades) × HandsOut (state card.now memory.now) size f }
-    ensures { IfOk result (λ v. ((f : Shades) → HandsOut (state card.now memory.now) size f → v.items ≡ lines greys size f size.height)) }
+    ensures { IfOk result (λ v. ((f : Shades) → HandsOut (state card.now memory.now) size f
+        → v.items ≡ lines greys size f size.height)) }
 {
     let mut tones = Vec::new(heap);
     for y in 0..size.height {

@@ -1,13 +1,11 @@
-// What the program prints.
+//! What the program prints of a file.
 
 ghost use Rattle.clean.specs.Printed.{Printed};
 ghost use Rattle.std.specs.Prelude.{◌≡◌, IfOk, string_bytes};
 
 use crate::cleaning::cleaned;
-use pgm::file::read;
-use pgm::picture::Picture;
-use plain::input::LONGEST;
-use plain::texts::{PlainPgm, Refused};
+use crate::input::LONGEST;
+use pgm::{Picture, PlainPgm, Refused, read};
 use std::alloc::Global;
 use std::io;
 

@@ -3,7 +3,7 @@ use Rattle.std.proofs.Common.{◌≡◌, ℕ, ◌+◌, List, ◌++◌, length, d
 use Rattle.std.proofs.lemmas.List.{length-append, drop_at}
 use Rattle.std.proofs.lemmas.Bool.{cases_order}
 use Rattle.pgm.specs.Grammar.Fault.{missing, extra, tone}
-use Rattle.pgm.specs.Machine.{outcome, FirstAbove}
+use Rattle.pgm.specs.Machine.{header_of, FirstAbove}
 use Rattle.pgm.specs.Reading.{Reading, Reads, OneReading}
 use Rattle.pgm.specs.Reading.Reading.{Shows, Faulty}
 use Rattle.pgm.specs.declared.faults.FileFault.TheVariants.{Header as InHeader, Count, Sample}
@@ -52,7 +52,7 @@ by_one file (Err f) x y p q = p ∙ sym q
 
 -- a file has one reading at most
 pub one_reading : OneReading
-one_reading file a b p q = by_one file (outcome file) a b (by file a p) (by file b q)
+one_reading file a b p q = by_one file (header_of file) a b (by file a p) (by file b q)
 
 -- it has the reading that its header and samples say
 module _ (file : List ℕ) (h : Header) (f : Behind h file) where
@@ -86,18 +86,18 @@ reads_by : (file : List ℕ) (o : Result Header HeaderFault) (x : Reading) → F
 reads_by file (Ok h) x f j = judged_reads file h f x j
 reads_by file (Err g) x f j = subst (Reads file) (sym j) f
 
-reads : (file : List ℕ) (x : Reading) → By file (outcome file) x → Reads file x
-reads file x j = reads_by file (outcome file) x (found file) j
+reads : (file : List ℕ) (x : Reading) → By file (header_of file) x → Reads file x
+reads file x j = reads_by file (header_of file) x (found file) j
 
 -- what is read so is read in no other way
-only : (file : List ℕ) (x : Reading) → By file (outcome file) x → (other : Reading) → Reads file other → other ≡ x
-only file x j other r = by_one file (outcome file) other x (by file other r) j
+only : (file : List ℕ) (x : Reading) → By file (header_of file) x → (other : Reading) → Reads file other → other ≡ x
+only file x j other r = by_one file (header_of file) other x (by file other r) j
 
 -- all that is promised of a reading, from what the header comes out as
 abbrev pub Settled : List ℕ → Reading → Type 0
 Settled file x = record { answer : Reads file x; unambiguous : OneReading; only : (other : Reading) → Reads file other → other ≡ x }
 
-pub settled : (file : List ℕ) (o : Result Header HeaderFault) (x : Reading) → o ≡ outcome file → By file o x → Settled file x
+pub settled : (file : List ℕ) (o : Result Header HeaderFault) (x : Reading) → o ≡ header_of file → By file o x → Settled file x
 settled file o x e j =
-    let by_file : By file (outcome file) x = subst (λ p. By file p x) e j in
+    let by_file : By file (header_of file) x = subst (λ p. By file p x) e j in
     record { answer = reads file x by_file; unambiguous = one_reading; only = only file x by_file }

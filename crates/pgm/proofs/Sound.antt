@@ -3,15 +3,15 @@ use Rattle.std.proofs.Common.{◌≡◌, ℕ, suc, ◌+◌, ◌-◌, ◌*◌, �
 use Rattle.std.proofs.lemmas.List.{append_assoc, append-nil, length_push}
 use Rattle.std.proofs.lemmas.Bool.{cond_both}
 use Rattle.std.proofs.lemmas.Bool.Decides.{nat_tests}
-use Rattle.pgm.specs.Bytes.{line, white, digit}
+use Rattle.pgm.specs.Bytes.{line_end, white, digit}
 use Rattle.pgm.specs.Classes.{class_of}
-use Rattle.pgm.specs.Grammar.{Remark, Gap as Gapped, Digits, Within, Field, P5, most, Upto, Whole, Fault}
+use Rattle.pgm.specs.Grammar.{Remark, Gap as Gapped, Digits, Within, Field, P5, limit, Upto, Whole, Fault}
 use Rattle.pgm.specs.Grammar.Remark.{none as no_remark, more as more_remark}
 use Rattle.pgm.specs.Grammar.Gap.{one as one_white, more as more_white, comment as one_comment}
 use Rattle.pgm.specs.Grammar.Digits.{one as one_digit, more as more_digits}
 use Rattle.pgm.specs.Grammar.Short.{nothing, in_mark, after_mark as short_mark, in_gap as short_gap, in_comment as short_comment, after_number as short_number}
-use Rattle.pgm.specs.Grammar.Fault.{no_P as fault_P, no_5 as fault_5, after_mark as fault_mark, in_gap as fault_gap, after_number as fault_behind, number as fault_number, early}
-use Rattle.pgm.specs.Machine.{taken, runs, after, marked, gapped, numbered, commented, closed, moved_on, within_limits, limit, grown, closing, outcome}
+use Rattle.pgm.specs.Grammar.Fault.{no_P as fault_P, no_5 as fault_5, after_mark as fault_mark, in_gap as fault_gap, after_number as fault_behind, outside_limits as fault_number, early}
+use Rattle.pgm.specs.Machine.{after_byte, runs, after_class, marked, gapped, numbered, commented, closed, moved_on, within_limits, grown, closing, header_of}
 use Rattle.pgm.specs.declared.bytes.Class.{Class}
 use Rattle.pgm.specs.declared.faults.HeaderFault.{HeaderFault}
 use Rattle.pgm.specs.declared.faults.HeaderFault.TheVariants.{Mark as MarkFault, Byte, Number as NumberFault, Early}
@@ -130,7 +130,7 @@ module _ (k : Known) (a g : List ℕ) (up : Upto k a) (gs : Gapped g) (b : ℕ) 
 
 -- a comment
 module _ (k : Known) (a g r : List ℕ) (up : Upto k a) (gs : Gapped g) (rs : Remark r) (b : ℕ) where
-  goes_on : line b ≡ false → InComment k (((a ++ g) ++ 35 ∷ r) ++ b ∷ [])
+  goes_on : line_end b ≡ false → InComment k (((a ++ g) ++ 35 ∷ r) ++ b ∷ [])
   goes_on l =
       record { a = a; g = g; c = r ++ b ∷ []; whole = append_assoc (a ++ g) (35 ∷ r) (b ∷ []); upto = up; gapping = gs; remarking = more_remark b rs l }
 
@@ -147,38 +147,33 @@ module _ (k : Known) (a g r : List ℕ) (up : Upto k a) (gs : Gapped g) (rs : Re
 pub held_more : (u v d : ℕ) → v ≡ min u 1025 → grown v d ≡ min (u * 10 + d) 1025
 held_more u v d e = grind (arith, nat_tests)
 
-pub limit_most : (k : Known) → limit k ≡ most k
-limit_most Nothing = refl
-limit_most (Width w) = refl
-limit_most (Size w h) = refl
-
-pub most_below : (k : Known) → most k < 1025
+pub most_below : (k : Known) → limit k < 1025
 most_below Nothing = omega arith
 most_below (Width w) = omega arith
 most_below (Size w h) = omega arith
 
-pub lawful : (k : Known) (u v : ℕ) → v ≡ min u 1025 → within_limits k v ≡ true → Within (most k) u × (u ≡ v)
-lawful k u v e w = let m = most_below k in let l = limit_most k in (grind (arith, nat_tests), grind (arith, nat_tests))
+pub limits_kept : (k : Known) (u v : ℕ) → v ≡ min u 1025 → within_limits k v ≡ true → Within (limit k) u × (u ≡ v)
+limits_kept k u v e w = let m = most_below k in (grind (arith, nat_tests), grind (arith, nat_tests))
 
-pub unlawful : (k : Known) (u v : ℕ) → v ≡ min u 1025 → within_limits k v ≡ false → Within (most k) u → ⊥
-unlawful k u v e w i = let m = most_below k in let l = limit_most k in let p = i.0 in let q = i.1 in grind (arith, nat_tests)
+pub limits_broken : (k : Known) (u v : ℕ) → v ≡ min u 1025 → within_limits k v ≡ false → Within (limit k) u → ⊥
+limits_broken k u v e w i = let m = most_below k in let p = i.0 in let q = i.1 in grind (arith, nat_tests)
 
 -- a number
 module _ (k : Known) (a g d : List ℕ) (u v : ℕ) (up : Upto k a) (gs : Gapped g) (ds : Digits d u) (e : v ≡ min u 1025) (b : ℕ) where
-  field : Within (most k) u → u ≡ v → Field (Upto k) (most k) v ((a ++ g) ++ d)
+  field : Within (limit k) u → u ≡ v → Field (Upto k) (limit k) v ((a ++ g) ++ d)
   field i q =
-      record { before = a; gap = g; digits = d; whole = refl; sound = up; gapped = gs; number = subst (Digits d) q ds; within = subst (Within (most k)) q i }
+      record { before = a; gap = g; digits = d; whole = refl; sound = up; gapped = gs; valued = subst (Digits d) q ds; within = subst (Within (limit k)) q i }
 
   outside : digit b ≡ false → within_limits k v ≡ false → (rest : List ℕ) → Fault ((((a ++ g) ++ d) ++ b ∷ []) ++ rest) (InHeader (NumberFault (length (a ++ g))))
-  outside n f rest = fault_number k u a g d (b ∷ rest) up gs ds (append_assoc ((a ++ g) ++ d) (b ∷ []) rest) n (unlawful k u v e f)
+  outside n f rest = fault_number k u a g d (b ∷ rest) up gs ds (append_assoc ((a ++ g) ++ d) (b ∷ []) rest) n (limits_broken k u v e f)
 
   cut_off : digit b ≡ false → white b ≡ false → Stands (((a ++ g) ++ d) ++ b ∷ []) (closed k (length (a ++ g)) v (length ((a ++ g) ++ d)) false)
   cut_off n w =
       cond_both (within_limits k v) (Refused (Byte (length ((a ++ g) ++ d)))) (Refused (NumberFault (length (a ++ g)))) (Stands (((a ++ g) ++ d) ++ b ∷ []))
-      (λ t rest. let p = lawful k u v e t in fault_behind k v ((a ++ g) ++ d) b rest (field p.0 p.1) (append_assoc ((a ++ g) ++ d) (b ∷ []) rest) w n)
+      (λ t rest. let p = limits_kept k u v e t in fault_behind k v ((a ++ g) ++ d) b rest (field p.0 p.1) (append_assoc ((a ++ g) ++ d) (b ∷ []) rest) w n)
       (outside n)
 
-next_number : (k : Known) (v : ℕ) (n : List ℕ) → Field (Upto k) (most k) v n → (b : ℕ) → white b ≡ true → Stands (n ++ b ∷ []) (moved_on k v (length n))
+next_number : (k : Known) (v : ℕ) (n : List ℕ) → Field (Upto k) (limit k) v n → (b : ℕ) → white b ≡ true → Stands (n ++ b ∷ []) (moved_on k v (length n))
 next_number Nothing v n f b w = record { a = n; g = b ∷ []; whole = refl; upto = f; gapping = one_white b w }
 next_number (Width x) v n f b w = record { a = n; g = b ∷ []; whole = refl; upto = f; gapping = one_white b w }
 next_number (Size x y) v n f b w =
@@ -194,7 +189,7 @@ module _ (k : Known) (a g d : List ℕ) (u v : ℕ) (up : Upto k a) (gs : Gapped
   ended : digit b ≡ false → white b ≡ true → Stands (((a ++ g) ++ d) ++ b ∷ []) (closed k (length (a ++ g)) v (length ((a ++ g) ++ d)) true)
   ended n w =
       cond_both (within_limits k v) (moved_on k v (length ((a ++ g) ++ d))) (Refused (NumberFault (length (a ++ g)))) (Stands (((a ++ g) ++ d) ++ b ∷ []))
-      (λ t. let p = lawful k u v e t in next_number k v ((a ++ g) ++ d) (field k a g d u v up gs ds e b p.0 p.1) b w)
+      (λ t. let p = limits_kept k u v e t in next_number k v ((a ++ g) ++ d) (field k a g d u v up gs ds e b p.0 p.1) b w)
       (outside k a g d u v up gs ds e b n)
 
   number_byte : {c : Class} → Sort b c → Stands (((a ++ g) ++ d) ++ b ∷ []) (numbered k (length (a ++ g)) v (length ((a ++ g) ++ d)) c)
@@ -218,7 +213,7 @@ module _ (k : Known) (a g d : List ℕ) (u v : ℕ) (up : Upto k a) (gs : Gapped
   number_byte (another l w n m o) = cut_off k a g d u v up gs ds e b n w
 
 -- one byte more
-step : (bs : List ℕ) (b : ℕ) (s : State) → Stands bs s → Stands (bs ++ b ∷ []) (after (length bs) (class_of b) s)
+step : (bs : List ℕ) (b : ℕ) (s : State) → Stands bs s → Stands (bs ++ b ∷ []) (after_class (length bs) (class_of b) s)
 step bs b Mark (inl e) = rw e (first_byte b (sort b))
 step bs b Mark (inr (inl e)) = rw e (second_byte b (sort b))
 step bs b Mark (inr (inr e)) = rw e (third_byte b (sort b))
@@ -231,10 +226,10 @@ step bs b (Raster h) r =
 step bs b (Refused f) r = λ rest. rw append_assoc (r (b ∷ rest))
 
 steps : (bs : List ℕ) (s : State) (rest : List ℕ) → Stands bs s → Stands (bs ++ rest) (runs s (length bs) rest)
-unfolding runs taken
+unfolding runs after_byte
 steps bs s [] r = rw append-nil r
 steps bs s (b ∷ rest) r =
-    let more = steps (bs ++ b ∷ []) (after (length bs) (class_of b) s) rest (step bs b s r) in
+    let more = steps (bs ++ b ∷ []) (after_class (length bs) (class_of b) s) rest (step bs b s r) in
     let n : length (bs ++ b ∷ []) ≡ suc (length bs) = omega (arith, length_push bs b) in
     rw (append_assoc bs (b ∷ []) rest, n) at more
 
@@ -250,12 +245,12 @@ found_by file Mark (inr (inr e)) = early (short_mark e)
 found_by file (Gap k) r = early (short_gap k r.a r.g r.upto r.gapping r.whole)
 found_by file (Number n) r =
     cond_both (within_limits n.known n.value) (Early (length file)) (NumberFault n.first) (λ f. Fault file (InHeader f))
-    (λ t. let p = lawful n.known r.u n.value r.value t in
+    (λ t. let p = limits_kept n.known r.u n.value r.value t in
     early (short_number n.known n.value (rw r.whole (field n.known r.a r.g r.d r.u n.value r.upto r.gapping r.digiting r.value 0 p.0 p.1))))
-    (λ t. rw r.start (fault_number n.known r.u r.a r.g r.d [] r.upto r.gapping r.digiting (r.whole ∙ sym (append-nil _)) tt (unlawful n.known r.u n.value r.value t)))
+    (λ t. rw r.start (fault_number n.known r.u r.a r.g r.d [] r.upto r.gapping r.digiting (r.whole ∙ sym (append-nil _)) tt (limits_broken n.known r.u n.value r.value t)))
 found_by file (Comment k) r = early (short_comment k r.a r.g r.c r.upto r.gapping r.remarking r.whole)
 found_by file (Raster h) r = r
 found_by file (Refused f) r = subst (λ x. Fault x (InHeader f)) (append-nil file) (r [])
 
-pub found : (file : List ℕ) → Found file (outcome file)
+pub found : (file : List ℕ) → Found file (header_of file)
 found file = found_by file (runs Mark 0 file) (steps [] Mark file (inl refl))

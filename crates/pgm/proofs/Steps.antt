@@ -3,7 +3,7 @@ use Rattle.std.proofs.Common.{◌≡◌, ℕ, suc, ◌+◌, ◌<◌, ◌≤◌, 
 use mathlib.Core.Bool.{false≢true}
 use Rattle.std.proofs.lemmas.List.{drop_all}
 use Rattle.pgm.specs.Classes.{class_of}
-use Rattle.pgm.specs.Machine.{Advanced, taken, runs, after, final, closing, moved_on, within_limits, is_letter, is_five, white_class}
+use Rattle.pgm.specs.Machine.{Advanced, after_byte, runs, after_class, final, closing, moved_on, within_limits, is_letter, is_five, white_class}
 use Rattle.pgm.specs.declared.bytes.Class.{Class}
 use Rattle.pgm.specs.declared.bytes.Class.TheVariants.{Line, Blank, Digit, Hash, Letter, Other}
 use Rattle.pgm.specs.declared.faults.HeaderFault.{HeaderFault}
@@ -52,7 +52,7 @@ ends_closed Nothing first v at true true = tt
 ends_closed (Width x) first v at true true = tt
 ends_closed (Size x y) first v at true true = refl
 
-pub ends_after : (at : ℕ) (c : Class) (s : State) → final s ≡ false → Ends (after at c s) (at + 1)
+pub ends_after : (at : ℕ) (c : Class) (s : State) → final s ≡ false → Ends (after_class at c s) (at + 1)
 ends_after at c Mark e = ends_marked at c (eqb at 0) (eqb at 1)
 ends_after at Line (Gap k) e = tt
 ends_after at Blank (Gap k) e = tt
@@ -76,34 +76,34 @@ ends_after at c (Raster h) e = absurd (true≢false e)
 ends_after at c (Refused f) e = absurd (true≢false e)
 
 -- a state that takes in nothing more stays
-taken_final : (at b : ℕ) (s : State) → final s ≡ true → taken at b s ≡ s
-unfolding taken
-taken_final at b (Raster h) e = refl
-taken_final at b (Refused f) e = refl
-taken_final at b Mark e = absurd (false≢true e)
-taken_final at b (Gap k) e = absurd (false≢true e)
-taken_final at b (Number m) e = absurd (false≢true e)
-taken_final at b (Comment k) e = absurd (false≢true e)
+byte_final : (at b : ℕ) (s : State) → final s ≡ true → after_byte at b s ≡ s
+unfolding after_byte
+byte_final at b (Raster h) e = refl
+byte_final at b (Refused f) e = refl
+byte_final at b Mark e = absurd (false≢true e)
+byte_final at b (Gap k) e = absurd (false≢true e)
+byte_final at b (Number m) e = absurd (false≢true e)
+byte_final at b (Comment k) e = absurd (false≢true e)
 
 pub runs_final : (s : State) (at : ℕ) (bs : List ℕ) → final s ≡ true → runs s at bs ≡ s
 unfolding runs
 runs_final s at [] e = refl
-runs_final s at (b ∷ bs) e = ap (λ t. runs t (suc at) bs) (taken_final at b s e) ∙ runs_final s (suc at) bs e
+runs_final s at (b ∷ bs) e = ap (λ t. runs t (suc at) bs) (byte_final at b s e) ∙ runs_final s (suc at) bs e
 
 -- one byte more of a file
 pub runs_next : (s : State) (file : List ℕ) (i : ℕ) → i < length file →
-    runs s i (drop i file) ≡ runs (after i (class_of (get_or file i 0)) s) (i + 1) (drop (i + 1) file)
-unfolding runs taken
+    runs s i (drop i file) ≡ runs (after_class i (class_of (get_or file i 0)) s) (i + 1) (drop (i + 1) file)
+unfolding runs after_byte
 runs_next s file i h = rw (add-one, drop-cons file i 0)
 
 -- what is left of a file leads where the whole leads, one byte further on
 pub runs_again : (R s t : State) (file : List ℕ) (i n : ℕ) (p : ℕ × ℕ) (c : Class) → runs s i (drop i file) ≡ R →
-    Advanced file i (Some p) n → c ≡ class_of p.1 → t ≡ after p.0 c s → runs t n (drop n file) ≡ R
+    Advanced file i (Some p) n → c ≡ class_of p.1 → t ≡ after_class p.0 c s → runs t n (drop n file) ≡ R
 runs_again R s t file i n p c e a q r =
     let h : i < length file = a.0 in
     let m : n ≡ i + 1 = a.3 in
     let w : c ≡ class_of (get_or file i 0) = q ∙ ap class_of a.2 in
-    let v : t ≡ after i (class_of (get_or file i 0)) s = r ∙ ap (λ x. after x c s) a.1 ∙ ap (λ x. after i x s) w in
+    let v : t ≡ after_class i (class_of (get_or file i 0)) s = r ∙ ap (λ x. after_class x c s) a.1 ∙ ap (λ x. after_class i x s) w in
     rw (v, m) (sym (runs_next s file i h) ∙ e)
 
 -- where that state is final, it is where the whole file leads

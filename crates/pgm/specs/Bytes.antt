@@ -2,12 +2,12 @@
 use Rattle.std.specs.Prelude.{ℕ, Bool, ◌&&◌, ◌||◌, ◌==◌, nat_le}
 
 -- what ends a comment: line feed or carriage return
-abbrev pub line : ℕ → Bool
-line b = b == 10 || b == 13
+abbrev pub line_end : ℕ → Bool
+line_end b = b == 10 || b == 13
 
 -- white space: tab, line feed, carriage return, space
 abbrev pub white : ℕ → Bool
-white b = b == 9 || b == 32 || line b
+white b = b == 9 || b == 32 || line_end b
 
 -- 0 to 9
 abbrev pub digit : ℕ → Bool

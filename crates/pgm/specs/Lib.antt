@@ -3,4 +3,5 @@ pub mod Classes
 pub mod Grammar
 pub mod Machine
 pub mod Numbers
+pub mod Plain
 pub mod Reading

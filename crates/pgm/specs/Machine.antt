@@ -1,7 +1,8 @@
--- How the header machine goes: a middle layer between the code and the grammar, which no public promise names.
+-- How the header machine goes: between the code and the grammar. No public promise names it.
 use Rattle.std.specs.Prelude.{◌≡◌, ℕ, suc, ◌+◌, ◌-◌, ◌*◌, ◌<◌, ◌≤◌, min, Bool, true, false, cond, ◌&&◌, ◌⊎◌, List, [], ◌∷◌, length, drop, Some, None, Ok, Err, Option, Result, ◌==◌, nat_le, slice_index}
 use Rattle.std.specs.Borrow.{Bor}
 use Rattle.pgm.specs.Classes.{class_of}
+use Rattle.pgm.specs.Grammar.{limit}
 use Rattle.pgm.specs.declared.bytes.Class.{Class}
 use Rattle.pgm.specs.declared.bytes.Class.TheVariants.{Line, Blank, Digit, Hash, Letter, Other}
 use Rattle.pgm.specs.declared.faults.HeaderFault.{HeaderFault}
@@ -15,18 +16,12 @@ use Rattle.pgm.specs.declared.machine.Numeral.{Numeral}
 use Rattle.pgm.specs.declared.machine.State.{State}
 use Rattle.pgm.specs.declared.machine.State.TheVariants.{Mark, Gap, Number, Comment, Raster, Refused}
 
--- the greatest value of the number that comes next
-abbrev pub limit : Known → ℕ
-limit Nothing = 1024
-limit (Width w) = 256
-limit (Size w h) = 255
-
 abbrev pub a_numeral : Known → ℕ → ℕ → Numeral
 a_numeral k first v = record { known = k; first = first; value = v }
 
 -- in a number that begins at the byte first and has the value v so far
-abbrev pub number : Known → ℕ → ℕ → State
-number k first v = Number (a_numeral k first v)
+abbrev pub in_number : Known → ℕ → ℕ → State
+in_number k first v = Number (a_numeral k first v)
 
 -- a number's value with one digit more, held above every limit
 abbrev pub grown : ℕ → ℕ → ℕ
@@ -75,12 +70,14 @@ within_limits k v = nat_le 1 v && nat_le v (limit k)
 -- after a number and a byte that is no digit
 abbrev pub closed : Known → ℕ → ℕ → ℕ → Bool → State
 closed k first v at white =
-    cond (within_limits k v) (cond white (moved_on k v at) (Refused (Byte at))) (Refused (NumberFault first))
+    cond (within_limits k v)
+    (cond white (moved_on k v at) (Refused (Byte at)))
+    (Refused (NumberFault first))
 
 abbrev pub gapped : Known → ℕ → Class → State
 gapped k at Line = Gap k
 gapped k at Blank = Gap k
-gapped k at (Digit d) = number k at d
+gapped k at (Digit d) = in_number k at d
 gapped k at Hash = Comment k
 gapped k at Letter = Refused (Byte at)
 gapped k at Other = Refused (Byte at)
@@ -88,7 +85,7 @@ gapped k at Other = Refused (Byte at)
 abbrev pub numbered : Known → ℕ → ℕ → ℕ → Class → State
 numbered k first v at Line = closed k first v at true
 numbered k first v at Blank = closed k first v at true
-numbered k first v at (Digit d) = number k first (grown v d)
+numbered k first v at (Digit d) = in_number k first (grown v d)
 numbered k first v at Hash = closed k first v at false
 numbered k first v at Letter = closed k first v at false
 numbered k first v at Other = closed k first v at false
@@ -102,22 +99,22 @@ commented k Letter = Comment k
 commented k Other = Comment k
 
 -- after a byte of the class c with the number at
-abbrev pub after : ℕ → Class → State → State
-after at c Mark = marked at c
-after at c (Gap k) = gapped k at c
-after at c (Number n) = numbered n.known n.first n.value at c
-after at c (Comment k) = commented k c
-after at c (Raster h) = Raster h
-after at c (Refused f) = Refused f
+abbrev pub after_class : ℕ → Class → State → State
+after_class at c Mark = marked at c
+after_class at c (Gap k) = gapped k at c
+after_class at c (Number n) = numbered n.known n.first n.value at c
+after_class at c (Comment k) = commented k c
+after_class at c (Raster h) = Raster h
+after_class at c (Refused f) = Refused f
 
 -- after the byte b with the number at
-unfoldable pub taken : ℕ → ℕ → State → State
-taken at b s = after at (class_of b) s
+unfoldable pub after_byte : ℕ → ℕ → State → State
+after_byte at b s = after_class at (class_of b) s
 
 -- after the bytes of a list, the first of which has the number at
 unfoldable pub runs : State → ℕ → List ℕ → State
 runs s at [] = s
-runs s at (b ∷ bs) = runs (taken at b s) (suc at) bs
+runs s at (b ∷ bs) = runs (after_byte at b s) (suc at) bs
 
 -- nothing more is taken in
 abbrev pub final : State → Bool
@@ -138,18 +135,20 @@ closing n (Raster h) = Ok h
 closing n (Refused f) = Err f
 
 -- what the header of a file says
-abbrev pub outcome : List ℕ → Result Header HeaderFault
-outcome file = closing (length file) (runs Mark 0 file)
+abbrev pub header_of : List ℕ → Result Header HeaderFault
+header_of file = closing (length file) (runs Mark 0 file)
 
 -- the reader gives the byte n of a file with its number, and goes on to n'
 abbrev pub Advanced : List ℕ → ℕ → Option (ℕ × ℕ) → ℕ → Type 0
 Advanced file n None n' = (length file ≤ n) × (n' ≡ n)
-Advanced file n (Some p) n' = (n < length file) × (p.0 ≡ n) × (p.1 ≡ slice_index file n) × (n' ≡ n + 1)
+Advanced file n (Some p) n' =
+    (n < length file) × (p.0 ≡ n) × (p.1 ≡ slice_index file n) × (n' ≡ n + 1)
 
 -- the first of the samples that is above m
 abbrev pub FirstAbove : ℕ → List ℕ → Option ℕ → Type 0
 FirstAbove m xs None = (i : ℕ) → i < length xs → slice_index xs i ≤ m
-FirstAbove m xs (Some i) = (i < length xs) × (m < slice_index xs i) × ((j : ℕ) → j < i → slice_index xs j ≤ m)
+FirstAbove m xs (Some i) =
+    (i < length xs) × (m < slice_index xs i) × ((j : ℕ) → j < i → slice_index xs j ≤ m)
 
 -- what is wrong with the samples, which begin at the byte n of a file
 abbrev pub Unsampled : List ℕ → ℕ → Header → FileFault → Type 0
@@ -158,10 +157,13 @@ Unsampled file n h (Count at) =
     ((length file - n < h.width * h.height) × (at ≡ length file))
     ⊎ ((h.width * h.height < length file - n) × (at ≡ n + h.width * h.height))
 Unsampled file n h (Sample at) =
-    (length file - n ≡ h.width * h.height) × ((i : ℕ) × (at ≡ n + i) × FirstAbove h.maxval (drop n file) (Some i))
+    (length file - n ≡ h.width * h.height)
+    × ((i : ℕ) × (at ≡ n + i) × FirstAbove h.maxval (drop n file) (Some i))
 
 -- the samples from the byte n of a file on
 abbrev pub Sampled : List ℕ → ℕ → Header → Result (Bor (List ℕ)) FileFault → Type 0
 Sampled file n h (Ok s) =
-    (s.now ≡ drop n file) × (length file - n ≡ h.width * h.height) × FirstAbove h.maxval (drop n file) None
+    (s.now ≡ drop n file)
+    × (length file - n ≡ h.width * h.height)
+    × FirstAbove h.maxval (drop n file) None
 Sampled file n h (Err f) = Unsampled file n h f

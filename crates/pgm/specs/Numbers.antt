@@ -1,5 +1,6 @@
--- The refusal number, the letter and the byte of each fault.
-use Rattle.std.specs.Prelude.{ℕ}
+-- The number, the letter and the byte of each fault, and its cause in words. Assumes nothing.
+use Rattle.std.specs.Prelude.{ℕ, List, ◌++◌, codes, encode_utf8}
+use Rattle.std.specs.Fmt.{decimal}
 use Rattle.pgm.specs.declared.faults.HeaderFault.{HeaderFault}
 use Rattle.pgm.specs.declared.faults.HeaderFault.TheVariants.{Mark, Byte, Number, Early}
 use Rattle.pgm.specs.declared.faults.FileFault.{FileFault}
@@ -34,3 +35,27 @@ abbrev pub byte_of : FileFault → ℕ
 byte_of (Header f) = header_byte f
 byte_of (Count n) = n
 byte_of (Sample n) = n
+
+-- the cause in words
+abbrev pub header_cause : HeaderFault → List ℕ
+header_cause (Mark n) = codes "no P5 at the beginning"
+header_cause (Byte n) = codes "a byte that cannot stand there"
+header_cause (Number n) = codes "a number outside its limits"
+header_cause (Early n) = codes "the header ends early"
+
+abbrev pub cause_of : FileFault → List ℕ
+cause_of (Header f) = header_cause f
+cause_of (Count n) = codes "samples missing, or too many"
+cause_of (Sample n) = codes "a sample above maxval"
+
+-- a fault as it is shown: the letter, the byte and the cause, as `c 7: a number outside its limits`
+abbrev pub header_text : HeaderFault → List ℕ
+header_text f =
+    encode_utf8 (header_letter f) ++ codes " " ++ decimal (header_byte f)
+    ++ codes ": " ++ header_cause f
+
+-- of a file with the number before, as `23 c 7: a number outside its limits`
+abbrev pub fault_text : FileFault → List ℕ
+fault_text f =
+    decimal (number_of f) ++ codes " " ++ encode_utf8 (letter_of f)
+    ++ codes " " ++ decimal (byte_of f) ++ codes ": " ++ cause_of f

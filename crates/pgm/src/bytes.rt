@@ -1,4 +1,4 @@
-// The classes of bytes that the header tells apart.
+//! The classes of bytes that the header tells apart.
 
 ghost use Rattle.std.specs.Prelude.{◌≡◌};
 ghost use Rattle.pgm.specs.Classes.{class_of};

@@ -1,4 +1,4 @@
-// A whole file: its header, and then its samples.
+//! A whole file: its header, and then its samples.
 
 ghost use Rattle.pgm.specs.Reading.{OneReading, Reading, Reads, reading};
 ghost use Rattle.std.specs.Prelude.{◌≡◌};

@@ -1,13 +1,23 @@
-// The header, taken in byte by byte by a machine with six states.
+//! The header, taken in byte by byte by a machine with six states.
 
 ghost use Rattle.std.specs.Prelude.{◌≡◌, ℕ, ◌+◌, ◌*◌, ◌^◌, ◌<◌, ◌≤◌, Bool};
-ghost use Rattle.pgm.specs.Machine.{a_numeral, after, closed, closing, final, grown, limit, marked, within_limits};
+ghost use Rattle.pgm.specs.Grammar.{limit};
+ghost use Rattle.pgm.specs.Machine.{a_numeral, after_class, closed, closing, final, grown, marked, within_limits};
 
 use crate::bytes::Class;
 use crate::faults::HeaderFault;
 
-/// The numbers that the header has named so far.
-/// Options within options have the same shape, but are no plainer: the limits and the grammar go by these three names.
+/// The greatest width of a picture.
+const MOST_WIDTH: u16 = 1024;
+
+/// The greatest height of a picture.
+const MOST_HEIGHT: u16 = 256;
+
+/// The greatest maxval.
+const MOST_MAXVAL: u16 = 255;
+
+/// The numbers that the header has named so far: not options within options, since the limits and
+/// the grammar go by these three names.
 #[derive(Clone, Copy)]
 pub enum Known {
     Nothing,
@@ -53,7 +63,7 @@ impl State {
     /// Takes in a byte of that class with the number `at`.
     pub fn take(&mut self, at: usize, class: Class)
         requires { at + 1 < 2 ^ 64 }
-        ensures { self.new ≡ after at class self.old }
+        ensures { self.new ≡ after_class at class self.old }
     {
         *self = match (*self, class) {
             (State::Mark, class) => marked(at, class),
@@ -131,7 +141,7 @@ impl Numeral {
             .saturating_mul(10)
             .saturating_add(u16::from(digit));
         Numeral {
-            value: value.min(1025),
+            value: value.min(MOST_WIDTH + 1),
             ..self
         }
     }
@@ -172,9 +182,9 @@ impl Known {
         ensures { result ≡ limit self.now }
     {
         match self {
-            Known::Nothing => 1024,
-            Known::Width(_) => 256,
-            Known::Size(_, _) => 255,
+            Known::Nothing => MOST_WIDTH,
+            Known::Width(_) => MOST_HEIGHT,
+            Known::Size(_, _) => MOST_MAXVAL,
         }
     }
 }

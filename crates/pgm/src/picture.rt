@@ -1,4 +1,4 @@
-// A picture, as it lies in a file.
+//! A picture, as it lies in a file.
 
 /// The samples are a part of the file itself, row by row from the top, each row from the left.
 #[derive(Clone, Copy)]

@@ -1,7 +1,7 @@
-// The reader: a file and the number of its next byte.
+//! The reader: a file and the number of its next byte.
 
 ghost use Rattle.std.specs.Prelude.{◌≡◌, ◌≤◌, length, IfOk};
-ghost use Rattle.pgm.specs.Machine.{Advanced, Sampled, outcome};
+ghost use Rattle.pgm.specs.Machine.{Advanced, Sampled, header_of};
 
 use crate::bytes::Class;
 use crate::faults::{FileFault, HeaderFault};
@@ -37,7 +37,7 @@ impl<'a> Reader<'a> {
     pub fn header(&mut self) -> Result<Header, HeaderFault>
         requires { self.old.next ≡ 0 }
         ensures file { self.new.file.now ≡ self.old.file.now }
-        ensures answer { result ≡ outcome self.old.file.now }
+        ensures answer { result ≡ header_of self.old.file.now }
         ensures next { IfOk result (λ h. self.new.next ≡ h.end) }
     {
         let mut state = State::Mark;

@@ -1,6 +1,9 @@
-// Files of every kind, with what reading them gives.
+//! Files of every kind, with what reading them gives; and the texts, once each.
 
+use crate::faults::{FileFault, HeaderFault};
 use crate::file::read;
+use crate::picture::Picture;
+use crate::plain::{PlainPgm, Refused};
 use std::alloc::{AllocError, Global};
 use std::test::Fail;
 
@@ -119,5 +122,28 @@ fn long_width(heap: Global, digit: u8) -> Result<Outcome, AllocError> {
 fn long_numbers(rt: HostRuntime) -> Result<(), Fail> {
     assert_eq!(rt; long_width(rt.alloc(), b'0')?, Ok((1, 1, 255)));
     assert_eq!(rt; long_width(rt.alloc(), b'9')?, Err(('c', 3)));
+    Ok(())
+}
+
+#[test]
+fn plain_pgm(rt: HostRuntime) -> Result<(), Fail> {
+    let picture = PlainPgm(Picture {
+        width: 3,
+        height: 1,
+        maxval: 255,
+        samples: b"\x00\x09\xff",
+    });
+    let text = picture.to_string(rt.alloc())?;
+    assert_eq!(rt; text.as_str(), "P2\n3 1\n255\n0\n9\n255\n");
+    Ok(())
+}
+
+#[test]
+fn refusal(rt: HostRuntime) -> Result<(), Fail> {
+    let fault = FileFault::Header(HeaderFault::Number(7));
+    let text = Refused(fault).to_string(rt.alloc())?;
+    assert_eq!(rt; text.as_str(), "refused 23 7\n");
+    let shown = fault.to_string(rt.alloc())?;
+    assert_eq!(rt; shown.as_str(), "23 c 7: a number outside its limits");
     Ok(())
 }

@@ -1,10 +1,10 @@
-// What is printed of a file: its picture, or why it is refused.
+//! What is printed of a file: its picture, or why it is refused.
 
-ghost use Rattle.plain.specs.Texts.{plain, refused};
+ghost use Rattle.pgm.specs.Plain.{plain, refused};
 ghost use Rattle.std.specs.Prelude.{Some};
 
-use pgm::faults::FileFault;
-use pgm::picture::Picture;
+use crate::faults::FileFault;
+use crate::picture::Picture;
 use std::fmt;
 
 /// A picture, which is printed as plain PGM: its size, and then a tone a line.

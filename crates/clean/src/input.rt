@@ -1,4 +1,4 @@
-// The input of a program.
+//! What is read of the program's input.
 
 ghost use Rattle.std.specs.Io.Take.{take_inner, take_limit};
 ghost use Rattle.std.specs.Prelude.{◌≡◌};
