@@ -1,7 +1,7 @@
 //! A place of an element, turned for its stage.
 
 ghost use Rattle.std.specs.Prelude.{◌≡◌, ◌≤◌, neg_ℤ, unsigned_abs};
-ghost use Rattle.recipes.specs.Places.{Limits};
+ghost use Rattle.recipes.specs.Places.{IsLimited};
 ghost use Rattle.stages.specs.Taps.{tap_of};
 
 use recipes::places::{Part, Place};
@@ -19,7 +19,7 @@ pub struct Tap {
 impl Tap {
     /// The tap of a place of a stage: a core place weighs the order index, a soft one 1.
     pub fn of(stage: &Stage, place: &Place) -> Tap
-        requires { Limits place.now }
+        requires { IsLimited place.now }
         ensures { result ≡ tap_of stage.now place.now }
     {
         let order = stage.element.order_index();
