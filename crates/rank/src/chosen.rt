@@ -30,7 +30,8 @@ impl Chosen {
     /// Makes the call on it.
     pub fn play(&mut self, call: Call) -> Result<Reply, CallRefusal>
         ensures answer { Answered (chosen_weight self.old) (chosen_range self.old) call result }
-        ensures weights { (c : ℕ) → chosen_weight self.new c ≡ after (chosen_weight self.old) (chosen_range self.old) call c }
+        ensures weights { (c : ℕ) → chosen_weight self.new c
+            ≡ after (chosen_weight self.old) (chosen_range self.old) call c }
         ensures range_kept { chosen_range self.new ≡ chosen_range self.old }
     {
         match self {
