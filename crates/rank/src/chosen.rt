@@ -3,8 +3,7 @@ ghost use Rattle.std.specs.Prelude.{◌≡◌, ℕ};
 ghost use Rattle.rank.specs.Choice.{chosen_range, chosen_weight, kind_range};
 ghost use Rattle.selectors.specs.Played.{Answered, after};
 
-use selectors::calls::{Call, CallRefusal, Kind, Reply, play};
-use selectors::{Gate, Histogram, Ladder};
+use selectors::{Call, CallRefusal, Gate, Histogram, Kind, Ladder, Reply, play};
 
 /// A selector of one of the three kinds.
 #[derive(Clone, Copy)]

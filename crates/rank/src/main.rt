@@ -10,7 +10,7 @@ mod read;
 use answer::Answer;
 use chosen::Chosen;
 use command::Command;
-use selectors::calls::{Kind, Reply};
+use selectors::{Kind, Reply};
 use std::io::{BufRead, BufReader};
 use std::process::ExitCode;
 use std::{env, io};

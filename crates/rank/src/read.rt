@@ -4,7 +4,7 @@ ghost use Rattle.std.specs.Option.{option_map};
 ghost use Rattle.rank.specs.Words.{Reads, Writes};
 
 use crate::command::Command;
-use selectors::calls::Call;
+use selectors::Call;
 
 /// The command of a line of at most three words.
 pub fn command(line: &str) -> Option<Command> {
