@@ -13,9 +13,9 @@ use Rattle.recipes.specs.Reaches.{reach}
 use Rattle.recipes.specs.Recipes.{places_within, amounts_within, eroding, dilating}
 use Rattle.selectors.specs.Bag.{Ranked}
 use Rattle.stages.specs.Stages.{Picture, weight, inside, read, bag, total, rank, cleaned, made}
-use Rattle.tones.specs.declared.kinds.Mark.{Mark}
-use Rattle.tones.specs.declared.kinds.Mark.TheVariants.{Yes}
-use Rattle.tones.specs.Kind.{Kind, held}
+use Rattle.tones.specs.declared.marks.Mark.{Mark}
+use Rattle.tones.specs.declared.marks.Mark.TheVariants.{Yes}
+use Rattle.tones.specs.Kind.{Kind, nearest}
 use Rattle.tones.specs.Marks.{marks, mark, mark_code}
 use Rattle.tones.specs.Whole.{WholeNumbers}
 use Rattle.filters.specs.Orders.{Kth}
@@ -103,7 +103,7 @@ module _ {T R : Type 0} (K : Kind T R) where
       → places_within K.span (placed s.element) ≡ true
       → (z : ℤ)
       × Kth s.operation s.element.order (differences K size s f x y value) z
-      × (value (cleaned K size s f x y) ≡ held low high z)
+      × (value (cleaned K size s f x y) ≡ nearest low high z)
 
   -- where no amount lowers or raises, the tone is one of those that the window reads
   abbrev pub KeepsVector : Type 0
