@@ -92,8 +92,8 @@ module _ {T R : Type 0} (K : Kind T R) where
       → places_within 0 (placed e) ≡ true
       → MakesFlat K value size e l f (made K size (stages_by l e) f)
 
-  -- a recipe makes what its steps make in turn, the first of the picture, each later one of what the
-  -- one before made
+  -- a recipe makes what its steps make in turn, the first of the picture, each later one of what
+  -- the one before made
   abbrev pub StepsInTurn : Type 0
   StepsInTurn =
       (size : Size) (s : Step) (ss : List Step) (f : Picture T)

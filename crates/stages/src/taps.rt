@@ -7,7 +7,8 @@ ghost use Rattle.stages.specs.Taps.{tap_of};
 use recipes::places::{Part, Place};
 use recipes::recipe::{Operation, Stage};
 
-/// Where a pixel's window reads, how much that weighs, and by how much it is lowered. A dilation reads as an erosion whose offsets and amounts are turned round.
+/// Where a pixel's window reads, how much that weighs, and by how much it is lowered. A dilation
+/// reads as an erosion whose offsets and amounts are turned round.
 #[derive(Clone, Copy)]
 pub struct Tap {
     pub dx: isize,
