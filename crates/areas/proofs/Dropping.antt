@@ -5,9 +5,9 @@ use Rattle.std.proofs.lemmas.List.{get_or-set_same, get_or-set_other}
 use Rattle.planes.specs.declared.size.Size.{Size}
 use Rattle.areas.specs.declared.rect.Rect.{Rect}
 use Rattle.areas.specs.Rects.{Holds, fits, lessened}
-use Rattle.areas.specs.Areas.{Area, Stale, area_fits, on_card, dropped, rows, stale_rows, lowest_from, lowest, top_row, next_of}
+use Rattle.areas.specs.Areas.{Area, Stale, area_fits, areas_fit, dropped, rows, stale_rows, lowest_from, lowest, top_row, next_of}
 use Rattle.areas.specs.Meanings.{some_stale, IsNext, NextIs, Leaves}
-use Rattle.areas.proofs.Fitting.{fits_true, on_card_at}
+use Rattle.areas.proofs.Fitting.{fits_true, areas_fit_at}
 use Rattle.areas.proofs.Walks.{Lowest, lowest_is, lowest_nothing}
 
 rows_lessened : (r : Rect) → r.top < r.bottom → rows (lessened r) + 1 ≡ r.bottom - r.top
@@ -17,21 +17,21 @@ rows_lessened r h =
     (λ e. let t = ltb-false (r.top + 1) r.bottom e in omega arith)
 
 -- dropping a row lowers the count by one while it is not 0
-pub rows_dropped : (size : Size) (bs : List Area) → on_card size bs ≡ true → stale_rows (dropped bs) ≡ stale_rows bs - 1
-unfolding on_card dropped stale_rows
+pub rows_dropped : (size : Size) (bs : List Area) → areas_fit size bs ≡ true → stale_rows (dropped bs) ≡ stale_rows bs - 1
+unfolding areas_fit dropped stale_rows
 rows_dropped size [] e = refl
 rows_dropped size (None ∷ bs) e = omega (arith, rows_dropped size bs e)
 rows_dropped size (Some r ∷ bs) e =
-    let f = fits_true size r (and_parts (fits size r) (on_card size bs) e).0 in
+    let f = fits_true size r (and_parts (fits size r) (areas_fit size bs) e).0 in
     omega (arith, rows_lessened r f.rows)
 
 -- rows are left exactly when some stage has an area
-pub rows_some : (size : Size) (bs : List Area) → on_card size bs ≡ true → ltb 0 (stale_rows bs) ≡ some_stale bs
-unfolding on_card stale_rows some_stale
+pub rows_some : (size : Size) (bs : List Area) → areas_fit size bs ≡ true → ltb 0 (stale_rows bs) ≡ some_stale bs
+unfolding areas_fit stale_rows some_stale
 rows_some size [] e = refl
 rows_some size (None ∷ bs) e = let z : 0 + stale_rows bs ≡ stale_rows bs = omega arith in rw z (rows_some size bs e)
 rows_some size (Some r ∷ bs) e =
-    let f = fits_true size r (and_parts (fits size r) (on_card size bs) e).0 in
+    let f = fits_true size r (and_parts (fits size r) (areas_fit size bs) e).0 in
     lt-ltb 0 (r.bottom - r.top + stale_rows bs) (omega arith)
 
 -- where nothing is next, no stage has an area
@@ -41,9 +41,9 @@ none_next j [] e = refl
 none_next j (None ∷ bs) e = none_next (j + 1) bs e
 none_next j (Some r ∷ bs) e = let z : ◌≡◌ {A = ℕ} 0 1 = cc in absurd (omega arith)
 
-is_next : (size : Size) (bs : List Area) (k : ℕ) (r : Rect) → on_card size bs ≡ true → Lowest 1 bs k r → IsNext bs k r.top
+is_next : (size : Size) (bs : List Area) (k : ℕ) (r : Rect) → areas_fit size bs ≡ true → Lowest 1 bs k r → IsNext bs k r.top
 is_next size bs k r e l =
-    let g : area_fits size (Some r) ≡ true = rw l.area at (on_card_at size bs (k - 1) e) in
+    let g : area_fits size (Some r) ≡ true = rw l.area at (areas_fit_at size bs (k - 1) e) in
     let f = fits_true size r g in
     let P : ℕ → ℕ → Area → Type 0 = λ x z a. Stale a x z in
     record {
@@ -54,7 +54,7 @@ is_next size bs k r e l =
       top = λ x z s. (subst (P x z) l.area s).from_top;
     }
 
-pub next_is : (size : Size) (bs : List Area) → on_card size bs ≡ true → NextIs bs (next_of bs)
+pub next_is : (size : Size) (bs : List Area) → areas_fit size bs ≡ true → NextIs bs (next_of bs)
 next_is size bs e =
     let go : (o : Option (ℕ × Rect)) → lowest bs ≡ o → NextIs bs (top_row o) = λ o. elim o as (λ o. lowest bs ≡ o → NextIs bs (top_row o)) [
       | None ↦ λ h. none_next 1 bs h

@@ -7,7 +7,7 @@ use Rattle.planes.specs.Sizes.{Limits}
 use Rattle.recipes.specs.declared.recipe.Stage.{Stage}
 use Rattle.areas.specs.declared.rect.Rect.{Rect}
 use Rattle.areas.specs.Rects.{Fits, fits, whole, widened, joined, lessened}
-use Rattle.areas.specs.Areas.{Area, area_fits, on_card, spread, all_stale, none_stale, dropped}
+use Rattle.areas.specs.Areas.{Area, area_fits, areas_fit, spread, all_stale, none_stale, dropped}
 
 pub fits_true : (size : Size) (r : Rect) → fits size r ≡ true → Fits size r
 fits_true size r e = record { columns = grind (arith, nat_tests); wide = grind (arith, nat_tests); rows = grind (arith, nat_tests); high = grind (arith, nat_tests) }
@@ -32,44 +32,44 @@ lessened_fits size r f =
     (λ e. let h = ltb-true (r.top + 1) r.bottom e in grind (arith, nat_tests))
     (λ e. refl)
 
-pub on_card_at : (size : Size) (bs : List Area) (i : ℕ) → on_card size bs ≡ true → area_fits size (get_or bs i None) ≡ true
-unfolding on_card
-on_card_at size [] i e = refl
-on_card_at size (a ∷ bs) zero e = (and_parts (area_fits size a) (on_card size bs) e).0
-on_card_at size (a ∷ bs) (suc i) e = on_card_at size bs i (and_parts (area_fits size a) (on_card size bs) e).1
+pub areas_fit_at : (size : Size) (bs : List Area) (i : ℕ) → areas_fit size bs ≡ true → area_fits size (get_or bs i None) ≡ true
+unfolding areas_fit
+areas_fit_at size [] i e = refl
+areas_fit_at size (a ∷ bs) zero e = (and_parts (area_fits size a) (areas_fit size bs) e).0
+areas_fit_at size (a ∷ bs) (suc i) e = areas_fit_at size bs i (and_parts (area_fits size a) (areas_fit size bs) e).1
 
-pub on_card_set : (size : Size) (bs : List Area) (i : ℕ) (a : Area) → on_card size bs ≡ true → area_fits size a ≡ true → on_card size (set bs i a) ≡ true
-unfolding on_card
-on_card_set size [] i a e f = refl
-on_card_set size (b ∷ bs) zero a e f = and_from (area_fits size a) (on_card size bs) f (and_parts (area_fits size b) (on_card size bs) e).1
-on_card_set size (b ∷ bs) (suc i) a e f =
-    let p = and_parts (area_fits size b) (on_card size bs) e in
-    and_from (area_fits size b) (on_card size (set bs i a)) p.0 (on_card_set size bs i a p.1 f)
+pub areas_fit_set : (size : Size) (bs : List Area) (i : ℕ) (a : Area) → areas_fit size bs ≡ true → area_fits size a ≡ true → areas_fit size (set bs i a) ≡ true
+unfolding areas_fit
+areas_fit_set size [] i a e f = refl
+areas_fit_set size (b ∷ bs) zero a e f = and_from (area_fits size a) (areas_fit size bs) f (and_parts (area_fits size b) (areas_fit size bs) e).1
+areas_fit_set size (b ∷ bs) (suc i) a e f =
+    let p = and_parts (area_fits size b) (areas_fit size bs) e in
+    and_from (area_fits size b) (areas_fit size (set bs i a)) p.0 (areas_fit_set size bs i a p.1 f)
 
-pub on_card_all : (size : Size) (ss : List Stage) → Limits size → on_card size (all_stale size ss) ≡ true
-unfolding on_card
-on_card_all size [] l = refl
-on_card_all size (s ∷ ss) l = and_from (area_fits size (Some (whole size))) (on_card size (all_stale size ss)) (fits_from size (whole size) (whole_fits size l)) (on_card_all size ss l)
+pub areas_fit_all : (size : Size) (ss : List Stage) → Limits size → areas_fit size (all_stale size ss) ≡ true
+unfolding areas_fit
+areas_fit_all size [] l = refl
+areas_fit_all size (s ∷ ss) l = and_from (area_fits size (Some (whole size))) (areas_fit size (all_stale size ss)) (fits_from size (whole size) (whole_fits size l)) (areas_fit_all size ss l)
 
-pub on_card_none : (size : Size) (ss : List Stage) → on_card size (none_stale ss) ≡ true
-unfolding on_card
-on_card_none size [] = refl
-on_card_none size (s ∷ ss) = on_card_none size ss
+pub areas_fit_none : (size : Size) (ss : List Stage) → areas_fit size (none_stale ss) ≡ true
+unfolding areas_fit
+areas_fit_none size [] = refl
+areas_fit_none size (s ∷ ss) = areas_fit_none size ss
 
-pub on_card_spread : (size : Size) (ss : List Stage) (r : Rect) (bs : List Area) → Fits size r → on_card size bs ≡ true → on_card size (spread size ss r bs) ≡ true
-unfolding on_card spread
-on_card_spread size [] r bs f e = e
-on_card_spread size (s ∷ ss) r [] f e = refl
-on_card_spread size (s ∷ ss) r (a ∷ bs) f e =
-    let p = and_parts (area_fits size a) (on_card size bs) e in
+pub areas_fit_spread : (size : Size) (ss : List Stage) (r : Rect) (bs : List Area) → Fits size r → areas_fit size bs ≡ true → areas_fit size (spread size ss r bs) ≡ true
+unfolding areas_fit spread
+areas_fit_spread size [] r bs f e = e
+areas_fit_spread size (s ∷ ss) r [] f e = refl
+areas_fit_spread size (s ∷ ss) r (a ∷ bs) f e =
+    let p = and_parts (area_fits size a) (areas_fit size bs) e in
     let n = joined (widened size s r) a in
     let g = joined_fits size (widened size s r) a (widened_fits size s r f) p.0 in
-    and_from (fits size n) (on_card size (spread size ss n bs)) (fits_from size n g) (on_card_spread size ss n bs g p.1)
+    and_from (fits size n) (areas_fit size (spread size ss n bs)) (fits_from size n g) (areas_fit_spread size ss n bs g p.1)
 
-pub on_card_dropped : (size : Size) (bs : List Area) → on_card size bs ≡ true → on_card size (dropped bs) ≡ true
-unfolding on_card dropped
-on_card_dropped size [] e = refl
-on_card_dropped size (None ∷ bs) e = on_card_dropped size bs e
-on_card_dropped size (Some r ∷ bs) e =
-    let p = and_parts (fits size r) (on_card size bs) e in
-    and_from (area_fits size (lessened r)) (on_card size bs) (lessened_fits size r (fits_true size r p.0)) p.1
+pub areas_fit_dropped : (size : Size) (bs : List Area) → areas_fit size bs ≡ true → areas_fit size (dropped bs) ≡ true
+unfolding areas_fit dropped
+areas_fit_dropped size [] e = refl
+areas_fit_dropped size (None ∷ bs) e = areas_fit_dropped size bs e
+areas_fit_dropped size (Some r ∷ bs) e =
+    let p = and_parts (fits size r) (areas_fit size bs) e in
+    and_from (area_fits size (lessened r)) (areas_fit size bs) (lessened_fits size r (fits_true size r p.0)) p.1

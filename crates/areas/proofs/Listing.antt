@@ -6,9 +6,9 @@ use Rattle.recipes.specs.declared.recipe.Stage.{Stage}
 use Rattle.areas.specs.declared.areas.Areas.{Areas}
 use Rattle.areas.specs.declared.rect.Rect.{Rect}
 use Rattle.areas.specs.Rects.{Fits, widened, joined, lessened}
-use Rattle.areas.specs.Areas.{on_card, spread, dropped, lowest}
+use Rattle.areas.specs.Areas.{areas_fit, spread, dropped, lowest}
 use Rattle.areas.specs.Listed.{listed}
-use Rattle.areas.proofs.Fitting.{fits_true, fits_from, on_card_at, on_card_set, on_card_dropped}
+use Rattle.areas.proofs.Fitting.{fits_true, fits_from, areas_fit_at, areas_fit_set, areas_fit_dropped}
 use Rattle.areas.proofs.Walks.{spread_more, spread_fits, Lowest, lowest_is}
 
 pub length_listed : (a : Areas) → length (listed a) ≡ a.count
@@ -27,7 +27,7 @@ module _ (a : Areas) (ss : List Stage) (r w n : Rect) (s : Stage) (i k : ℕ) (a
   here t = rw (get_or_default ss k t s more, ← ap (λ p. p.1) at, listed_at a k within, ← place, ← wide) new
 
   pub stored_fits : Fits a.frame.size n
-  stored_fits = spread_fits a.frame.size ss r n (get_or (listed a) k None) k more f (on_card_at a.frame.size (listed a) k a.sound) here
+  stored_fits = spread_fits a.frame.size ss r n (get_or (listed a) k None) k more f (areas_fit_at a.frame.size (listed a) k a.sound) here
 
   stored_listed : take a.count (set a.areas i (Some n)) ≡ set (listed a) k (Some n)
   stored_listed = rw place (take-set-lt a.count a.areas k (Some n) within)
@@ -35,8 +35,8 @@ module _ (a : Areas) (ss : List Stage) (r w n : Rect) (s : Stage) (i k : ℕ) (a
   pub stored_long : length (set a.areas i (Some n)) ≡ 8
   stored_long = length-set a.areas i (Some n) ∙ a.long
 
-  pub stored_sound : on_card a.frame.size (take a.count (set a.areas i (Some n))) ≡ true
-  stored_sound = rw stored_listed (on_card_set a.frame.size (listed a) k (Some n) a.sound (fits_from a.frame.size n stored_fits))
+  pub stored_sound : areas_fit a.frame.size (take a.count (set a.areas i (Some n))) ≡ true
+  stored_sound = rw stored_listed (areas_fit_set a.frame.size (listed a) k (Some n) a.sound (fits_from a.frame.size n stored_fits))
 
   pub stored_more :
       take (k + 1) (take a.count (set a.areas i (Some n))) ++ spread a.frame.size (drop (k + 1) ss) n (drop (k + 1) (take a.count (set a.areas i (Some n))))
@@ -55,7 +55,7 @@ module _ (a : Areas) (k : ℕ) (r : Rect) (is : lowest (listed a) ≡ Some (k, r
   drop_within = omega (arith, stands.stands, length_listed a)
 
   pub drop_fits : Fits a.frame.size r
-  drop_fits = fits_true a.frame.size r (rw stands.area at (on_card_at a.frame.size (listed a) (k - 1) a.sound))
+  drop_fits = fits_true a.frame.size r (rw stands.area at (areas_fit_at a.frame.size (listed a) (k - 1) a.sound))
 
   pub drop_listed : take a.count (set a.areas (k - 1) (lessened r)) ≡ dropped (listed a)
   drop_listed = take-set-lt a.count a.areas (k - 1) (lessened r) drop_within ∙ sym stands.less
@@ -63,5 +63,5 @@ module _ (a : Areas) (k : ℕ) (r : Rect) (is : lowest (listed a) ≡ Some (k, r
   pub drop_long : length (set a.areas (k - 1) (lessened r)) ≡ 8
   drop_long = length-set a.areas (k - 1) (lessened r) ∙ a.long
 
-  pub drop_sound : on_card a.frame.size (take a.count (set a.areas (k - 1) (lessened r))) ≡ true
-  drop_sound = rw drop_listed (on_card_dropped a.frame.size (listed a) a.sound)
+  pub drop_sound : areas_fit a.frame.size (take a.count (set a.areas (k - 1) (lessened r))) ≡ true
+  drop_sound = rw drop_listed (areas_fit_dropped a.frame.size (listed a) a.sound)

@@ -6,18 +6,18 @@ use Rattle.planes.specs.declared.size.Size.{Size}
 use Rattle.planes.specs.Sizes.{Limits}
 use Rattle.recipes.specs.declared.recipe.Stage.{Stage}
 use Rattle.areas.specs.declared.rect.Rect.{Rect}
-use Rattle.areas.specs.Rects.{Holds, Fits, fits, Near, widened, joined, whole, lessened}
-use Rattle.areas.specs.Areas.{Area, Stale, on_card, spread, none_stale, all_stale, dropped, last_area}
+use Rattle.areas.specs.Rects.{Holds, Fits, fits, InReach, widened, joined, whole, lessened}
+use Rattle.areas.specs.Areas.{Area, Stale, areas_fit, spread, none_stale, all_stale, dropped, last_area}
 use Rattle.areas.specs.Meanings.{has_area, some_stale}
 use Rattle.areas.specs.Arising.{Arises, NestedOn, Nested, Arising}
 use Rattle.areas.specs.Arising.Arises.{nothing, everything, written, redone}
-use Rattle.areas.proofs.Fitting.{fits_true, on_card_none, on_card_all, on_card_spread, on_card_dropped}
+use Rattle.areas.proofs.Fitting.{fits_true, areas_fit_none, areas_fit_all, areas_fit_spread, areas_fit_dropped}
 use Rattle.areas.proofs.Walks.{length_spread, length_dropped}
-use Rattle.areas.proofs.Spreading.{near_widened, joined_holds}
+use Rattle.areas.proofs.Spreading.{in_reach_widened, joined_holds}
 
--- what is near some pixels is near more of them
-near_more : (size : Size) (s : Stage) (P Q : ℕ → ℕ → Type 0) → ((x y : ℕ) → P x y → Q x y) → (x y : ℕ) → Near size s P x y → Near size s Q x y
-near_more size s P Q h x y n = record {
+-- what is in reach of some pixels is in reach of more
+in_reach_more : (size : Size) (s : Stage) (P Q : ℕ → ℕ → Type 0) → ((x y : ℕ) → P x y → Q x y) → (x y : ℕ) → InReach size s P x y → InReach size s Q x y
+in_reach_more size s P Q h x y n = record {
   column = n.column;
   row = n.row;
   other_x = n.other_x;
@@ -32,7 +32,7 @@ nested_fewer : (size : Size) (P Q : ℕ → ℕ → Type 0) → ((x y : ℕ) →
 unfolding NestedOn
 nested_fewer size P Q h [] bs n = tt
 nested_fewer size P Q h (s ∷ ss) [] n = tt
-nested_fewer size P Q h (s ∷ ss) (a ∷ bs) n = (λ x y p. n.0 x y (near_more size s P Q h x y p), n.1)
+nested_fewer size P Q h (s ∷ ss) (a ∷ bs) n = (λ x y p. n.0 x y (in_reach_more size s P Q h x y p), n.1)
 
 nested_none : (size : Size) (ss : List Stage) → Nested size ss (none_stale ss)
 unfolding NestedOn
@@ -52,7 +52,7 @@ unfolding NestedOn spread
 nested_spread size [] r bs = tt
 nested_spread size (s ∷ ss) r [] = tt
 nested_spread size (s ∷ ss) r (a ∷ bs) = (
-  λ x y n. joined_holds (widened size s r) a x y (near_widened size s r x y n),
+  λ x y n. joined_holds (widened size s r) a x y (in_reach_widened size s r x y n),
   nested_spread size ss (joined (widened size s r) a) bs,
 )
 
@@ -86,14 +86,14 @@ arises_nested size ss bs everything = nested_all size (λ x y. ⊥) ss
 arises_nested size ss bs (written r old f a) = nested_fewer size (λ x y. ⊥) (Holds r) (λ x y p. absurd p) ss (spread size ss r old) (nested_spread size ss r old)
 arises_nested size ss bs (redone old a) = nested_dropped size ss old (arises_nested size ss old a)
 
-pub arises_on_card : (size : Size) (ss : List Stage) (bs : List Area) → Limits size → Arises size ss bs → on_card size bs ≡ true
-arises_on_card size ss bs l nothing = on_card_none size ss
-arises_on_card size ss bs l everything = on_card_all size ss l
-arises_on_card size ss bs l (written r old f a) = on_card_spread size ss r old f (arises_on_card size ss old l a)
-arises_on_card size ss bs l (redone old a) = on_card_dropped size old (arises_on_card size ss old l a)
+pub arises_fit : (size : Size) (ss : List Stage) (bs : List Area) → Limits size → Arises size ss bs → areas_fit size bs ≡ true
+arises_fit size ss bs l nothing = areas_fit_none size ss
+arises_fit size ss bs l everything = areas_fit_all size ss l
+arises_fit size ss bs l (written r old f a) = areas_fit_spread size ss r old f (arises_fit size ss old l a)
+arises_fit size ss bs l (redone old a) = areas_fit_dropped size old (arises_fit size ss old l a)
 
 -- a stage has an area where the one below has one
-area_above : (size : Size) (s : Stage) (r : Rect) (b : Area) → Fits size r → ((x y : ℕ) → Near size s (Holds r) x y → Stale b x y) → has_area b ≡ true
+area_above : (size : Size) (s : Stage) (r : Rect) (b : Area) → Fits size r → ((x y : ℕ) → InReach size s (Holds r) x y → Stale b x y) → has_area b ≡ true
 area_above size s r None f n = absurd (n r.left r.top (record {
   column = omega arith;
   row = omega arith;
@@ -106,26 +106,26 @@ area_above size s r None f n = absurd (n r.left r.top (record {
 area_above size s r (Some q) f n = refl
 
 -- below nested areas of which the first is one, the last is one
-last_above : (size : Size) (ss : List Stage) (r : Rect) (bs : List Area) → Fits size r → on_card size bs ≡ true → length bs ≡ length ss → NestedOn size (Holds r) ss bs → has_area (last_area (Some r ∷ bs)) ≡ true
-unfolding last_area NestedOn on_card
+last_above : (size : Size) (ss : List Stage) (r : Rect) (bs : List Area) → Fits size r → areas_fit size bs ≡ true → length bs ≡ length ss → NestedOn size (Holds r) ss bs → has_area (last_area (Some r ∷ bs)) ≡ true
+unfolding last_area NestedOn areas_fit
 last_above size ss r [] f e l n = refl
 last_above size [] r (b ∷ bs) f e l n = absurd (omega arith)
 last_above size (s ∷ ss) r (None ∷ bs) f e l n = let z = area_above size s r None f n.0 in absurd (false≢true z)
 last_above size (s ∷ ss) r (Some q ∷ bs) f e l n =
-    let p = and_parts (fits size q) (on_card size bs) e in
+    let p = and_parts (fits size q) (areas_fit size bs) e in
     last_above size ss q bs (fits_true size q p.0) p.1 (omega arith) n.1
 
-last_tells : (size : Size) (P : ℕ → ℕ → Type 0) (ss : List Stage) (bs : List Area) → on_card size bs ≡ true → length bs ≡ length ss → NestedOn size P ss bs → some_stale bs ≡ has_area (last_area bs)
-unfolding last_area NestedOn on_card some_stale
+last_tells : (size : Size) (P : ℕ → ℕ → Type 0) (ss : List Stage) (bs : List Area) → areas_fit size bs ≡ true → length bs ≡ length ss → NestedOn size P ss bs → some_stale bs ≡ has_area (last_area bs)
+unfolding last_area NestedOn areas_fit some_stale
 last_tells size P ss [] e l n = refl
 last_tells size P [] (b ∷ bs) e l n = absurd (omega arith)
 last_tells size P (s ∷ ss) (None ∷ []) e l n = refl
 last_tells size P (s ∷ ss) (None ∷ (b ∷ bs)) e l n = last_tells size (Stale None) ss (b ∷ bs) e (omega arith) n.1
 last_tells size P (s ∷ ss) (Some r ∷ bs) e l n =
-    let p = and_parts (fits size r) (on_card size bs) e in
+    let p = and_parts (fits size r) (areas_fit size bs) e in
     sym (last_above size ss r bs (fits_true size r p.0) p.1 (omega arith) n.1)
 
 pub arising : (size : Size) (bs : List Area) → Limits size → Arising size bs
 arising size bs l ss a =
     let n = arises_nested size ss bs a in
-    (n, last_tells size (λ x y. ⊥) ss bs (arises_on_card size ss bs l a) (arises_length size ss bs a) n)
+    (n, last_tells size (λ x y. ⊥) ss bs (arises_fit size ss bs l a) (arises_length size ss bs a) n)

@@ -4,8 +4,8 @@ use Rattle.std.proofs.lemmas.Bool.{and_parts}
 use Rattle.planes.specs.declared.size.Size.{Size}
 use Rattle.recipes.specs.declared.recipe.Stage.{Stage}
 use Rattle.areas.specs.declared.rect.Rect.{Rect}
-use Rattle.areas.specs.Rects.{Holds, Fits, Near, Exactly, Smallest, widened, joined, hull}
-use Rattle.areas.specs.Areas.{Area, Stale, area_fits, on_card, spread}
+use Rattle.areas.specs.Rects.{Holds, Fits, InReach, Exactly, Smallest, widened, joined, hull}
+use Rattle.areas.specs.Areas.{Area, Stale, area_fits, areas_fit, spread}
 use Rattle.areas.specs.Meanings.{Becomes, Spreads}
 use Rattle.areas.proofs.Fitting.{fits_true, widened_fits, joined_fits}
 
@@ -13,9 +13,9 @@ use Rattle.areas.proofs.Fitting.{fits_true, widened_fits, joined_fits}
 nearest : ℕ → ℕ → ℕ → ℕ
 nearest a b x = max a (min x (b - 1))
 
-pub widened_near : (size : Size) (s : Stage) (r : Rect) → Fits size r → (x y : ℕ) → Holds (widened size s r) x y → Near size s (Holds r) x y
+pub widened_in_reach : (size : Size) (s : Stage) (r : Rect) → Fits size r → (x y : ℕ) → Holds (widened size s r) x y → InReach size s (Holds r) x y
 unfolding nearest
-widened_near size s r f x y h = record {
+widened_in_reach size s r f x y h = record {
   column = omega arith;
   row = omega arith;
   other_x = nearest r.left r.right x;
@@ -25,13 +25,13 @@ widened_near size s r f x y h = record {
   down_within = record { below = omega arith; above = omega arith };
 }
 
-pub near_widened : (size : Size) (s : Stage) (r : Rect) (x y : ℕ) → Near size s (Holds r) x y → Holds (widened size s r) x y
-near_widened size s r x y n =
+pub in_reach_widened : (size : Size) (s : Stage) (r : Rect) (x y : ℕ) → InReach size s (Holds r) x y → Holds (widened size s r) x y
+in_reach_widened size s r x y n =
     let t = n.there in
     record { from_left = omega arith; to_right = omega arith; from_top = omega arith; to_bottom = omega arith }
 
-pub widened_exact : (size : Size) (s : Stage) (r : Rect) → Fits size r → Exactly (widened size s r) (Near size s (Holds r))
-widened_exact size s r f x y = (widened_near size s r f x y, near_widened size s r x y)
+pub widened_exact : (size : Size) (s : Stage) (r : Rect) → Fits size r → Exactly (widened size s r) (InReach size s (Holds r))
+widened_exact size s r f x y = (widened_in_reach size s r f x y, in_reach_widened size s r x y)
 
 -- a rectangle of which another holds every pixel lies within its sides
 pub record Inside (r q : Rect) : Type 0 where
@@ -69,16 +69,16 @@ becomes : (size : Size) (s : Stage) (r : Rect) (a : Area) → Fits size r → ar
 becomes size s r a f e =
     let j = joined_smallest size (widened size s r) a (widened_fits size s r f) e in
     record {
-      all = λ x y h. elim h [ inl p ↦ j.all x y (inl (near_widened size s r x y p)) | inr p ↦ j.all x y (inr p) ];
-      least = λ q k x y h. j.least q (λ x y p. elim p [ inl t ↦ k x y (inl (widened_near size s r f x y t)) | inr t ↦ k x y (inr t) ]) x y h;
+      all = λ x y h. elim h [ inl p ↦ j.all x y (inl (in_reach_widened size s r x y p)) | inr p ↦ j.all x y (inr p) ];
+      least = λ q k x y h. j.least q (λ x y p. elim p [ inl t ↦ k x y (inl (widened_in_reach size s r f x y t)) | inr t ↦ k x y (inr t) ]) x y h;
     }
 
-pub spreads : (size : Size) (ss : List Stage) (r : Rect) (bs : List Area) → Fits size r → on_card size bs ≡ true → Spreads size ss (Holds r) bs (spread size ss r bs)
-unfolding Spreads spread on_card
+pub spreads : (size : Size) (ss : List Stage) (r : Rect) (bs : List Area) → Fits size r → areas_fit size bs ≡ true → Spreads size ss (Holds r) bs (spread size ss r bs)
+unfolding Spreads spread areas_fit
 spreads size [] r bs f e = refl
 spreads size (s ∷ ss) r [] f e = refl
 spreads size (s ∷ ss) r (a ∷ bs) f e =
-    let p = and_parts (area_fits size a) (on_card size bs) e in
+    let p = and_parts (area_fits size a) (areas_fit size bs) e in
     (becomes size s r a f p.0, spreads size ss (joined (widened size s r) a) bs (joined_fits size (widened size s r) a (widened_fits size s r f) p.0) p.1)
 
 -- a joined rectangle holds the pixels of the first

@@ -9,7 +9,7 @@ use Rattle.planes.specs.declared.size.Size.{Size}
 use Rattle.recipes.specs.declared.recipe.Stage.{Stage}
 use Rattle.areas.specs.declared.rect.Rect.{Rect}
 use Rattle.areas.specs.Rects.{Fits, widened, joined, lessened}
-use Rattle.areas.specs.Areas.{Area, area_fits, on_card, FirstThere, spread, dropped, rows, stale_rows, lowest, lowest_from, last_area}
+use Rattle.areas.specs.Areas.{Area, area_fits, areas_fit, FirstThere, spread, dropped, rows, stale_rows, lowest, lowest_from, last_area}
 use Rattle.areas.proofs.Fitting.{fits_true, joined_fits, widened_fits}
 
 -- the first places of an array with one value in all
@@ -111,11 +111,11 @@ rows_most size None e = omega arith
 rows_most size (Some r) e = let f = fits_true size r e in omega arith
 
 -- there are as many as rows and areas allow
-pub rows_bounded : (size : Size) (bs : List Area) → size.height ≤ 256 → on_card size bs ≡ true → stale_rows bs ≤ 256 * length bs
-unfolding on_card stale_rows
+pub rows_bounded : (size : Size) (bs : List Area) → size.height ≤ 256 → areas_fit size bs ≡ true → stale_rows bs ≤ 256 * length bs
+unfolding areas_fit stale_rows
 rows_bounded size [] h e = omega arith
 rows_bounded size (a ∷ bs) h e =
-    let p = and_parts (area_fits size a) (on_card size bs) e in
+    let p = and_parts (area_fits size a) (areas_fit size bs) e in
     omega (arith, rows_most size a p.0, rows_bounded size bs h p.1)
 
 -- the last area as the last of the list

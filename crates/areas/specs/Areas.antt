@@ -21,9 +21,9 @@ area_fits size None = true
 area_fits size (Some r) = fits size r
 
 -- every area does
-unfoldable pub on_card : Size → List Area → Bool
-on_card size [] = true
-on_card size (a ∷ rest) = area_fits size a && on_card size rest
+unfoldable pub areas_fit : Size → List Area → Bool
+areas_fit size [] = true
+areas_fit size (a ∷ rest) = area_fits size a && areas_fit size rest
 
 -- no stage has an area
 abbrev pub none_stale : List Stage → List Area
@@ -33,11 +33,17 @@ none_stale stages = map (λ s. None) stages
 abbrev pub all_stale : Size → List Stage → List Area
 all_stale size stages = map (λ s. Some (whole size)) stages
 
--- a written rectangle spreads: each stage's area becomes the smallest rectangle that holds its old area and the new area of the stage below, widened by its reach and cut to the card
+-- the smallest rectangle that holds a stage's old area and what is new below, widened by the
+-- stage's reach and cut to the card
+abbrev pub new_area : Size → Stage → Rect → Area → Rect
+new_area size s below old = joined (widened size s below) old
+
+-- a written rectangle spreads: each stage's area becomes its new area over that of the stage below
 unfoldable pub spread : Size → List Stage → Rect → List Area → List Area
 spread size [] r rest = rest
 spread size (s ∷ ss) r [] = []
-spread size (s ∷ ss) r (a ∷ rest) = Some (joined (widened size s r) a) ∷ spread size ss (joined (widened size s r) a) rest
+spread size (s ∷ ss) r (a ∷ rest) =
+    Some (new_area size s r a) ∷ spread size ss (new_area size s r a) rest
 
 -- the lowest stage with an area, counted from j, and that area
 unfoldable pub lowest_from : ℕ → List Area → Option (ℕ × Rect)
@@ -48,9 +54,17 @@ lowest_from j (Some r ∷ rest) = Some (j, r)
 abbrev pub lowest : List Area → Option (ℕ × Rect)
 lowest areas = lowest_from 1 areas
 
+-- none of the first n stages has an area
+abbrev pub NoneBefore : List Area → ℕ → Type 0
+NoneBefore areas n = (k : ℕ) → k < n → slice_get areas k ≡ Some None
+
 -- nothing where no stage has an area, else the first stage that has one, counted from 1
 abbrev pub FirstThere : List Area → Option (ℕ × Rect) → Type 0
-FirstThere bs o = MatchOption o ((k : ℕ) → k < length bs → slice_get bs k ≡ Some None) (λ p. (1 ≤ p.0) × (slice_get bs (p.0 - 1) ≡ Some (Some p.1)) × ((k : ℕ) → k < p.0 - 1 → slice_get bs k ≡ Some None))
+FirstThere areas o =
+    MatchOption o (NoneBefore areas (length areas)) (λ p.
+    (1 ≤ p.0)
+    × (slice_get areas (p.0 - 1) ≡ Some (Some p.1))
+    × NoneBefore areas (p.0 - 1))
 
 -- a stage with the top row of its area
 abbrev pub top_row : Option (ℕ × Rect) → Option (ℕ × ℕ)
@@ -83,13 +97,16 @@ last_area [] = None
 last_area (a ∷ []) = a
 last_area (a ∷ (b ∷ rest)) = last_area (b ∷ rest)
 
--- the first column of a piece of row y, n wide from column x on, that an area holds
+-- a piece of row y, n wide from column x on, crosses a rectangle
+abbrev pub crosses : Rect → ℕ → ℕ → ℕ → Bool
+crosses r x y n =
+    (nat_le r.top y && nat_lt y r.bottom)
+    && (nat_lt (max x r.left) r.right && nat_lt (max x r.left) (x + n))
+
+-- the first column of the piece that an area holds
 abbrev pub met : Area → ℕ → ℕ → ℕ → Option ℕ
 met None x y n = None
-met (Some r) x y n =
-    cond ((nat_le r.top y && nat_lt y r.bottom) && (nat_lt (max x r.left) r.right && nat_lt (max x r.left) (x + n)))
-    (Some (max x r.left))
-    None
+met (Some r) x y n = cond (crosses r x y n) (Some (max x r.left)) None
 
 -- no pixel of the piece is stale
 pub record Misses (a : Area) (x y n : ℕ) : Type 0 where

@@ -2,20 +2,23 @@
 use Rattle.std.specs.Prelude.{◌≡◌, ℕ, ◌-◌, ◌<◌, ◌≤◌, Bool, true, false, ◌||◌, ◌⊎◌, List, [], ◌∷◌, Some, None, Option, slice_index_or}
 use Rattle.planes.specs.declared.size.Size.{Size}
 use Rattle.recipes.specs.declared.recipe.Stage.{Stage}
-use Rattle.areas.specs.Rects.{Near, Smallest}
+use Rattle.areas.specs.Rects.{InReach, Smallest}
 use Rattle.areas.specs.Areas.{Area, Stale}
 
--- a stage's new area is the smallest rectangle that holds its old area and the card's pixels within its reach of those that are stale below
+-- a stage's new area is the smallest rectangle that holds its old area and the card's pixels within
+-- its reach of those that are stale below
 abbrev pub Becomes : Size → Stage → (ℕ → ℕ → Type 0) → Area → Area → Type 0
 Becomes size s below old None = ⊥
-Becomes size s below old (Some r) = Smallest r (λ x y. Near size s below x y ⊎ Stale old x y)
+Becomes size s below old (Some r) = Smallest r (λ x y. InReach size s below x y ⊎ Stale old x y)
 
--- stage by stage, where what is stale below the first stage are the pixels that were written; an area without a stage stays
+-- stage by stage, where what is stale below the first stage are the pixels that were written; an
+-- area without a stage stays
 unfoldable pub Spreads : Size → List Stage → (ℕ → ℕ → Type 0) → List Area → List Area → Type 0
 Spreads size [] below old new = new ≡ old
 Spreads size (s ∷ ss) below [] new = new ≡ []
 Spreads size (s ∷ ss) below (a ∷ old) [] = ⊥
-Spreads size (s ∷ ss) below (a ∷ old) (n ∷ new) = Becomes size s below a n × Spreads size ss (Stale n) old new
+Spreads size (s ∷ ss) below (a ∷ old) (n ∷ new) =
+    Becomes size s below a n × Spreads size ss (Stale n) old new
 
 -- a stage has an area
 abbrev pub has_area : Area → Bool

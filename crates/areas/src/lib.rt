@@ -3,8 +3,9 @@
 #![tactic(auto)]
 
 pub mod areas;
-pub mod changes;
-pub mod reads;
 pub mod rect;
 #[cfg(test)]
 mod tests;
+
+pub use areas::Areas;
+pub use rect::Rect;

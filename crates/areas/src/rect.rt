@@ -1,9 +1,10 @@
 //! Rectangles of pixels on a card.
 
-ghost use Rattle.areas.specs.Rects.{Holds, Fits, rect_on, whole, widened, hull, joined, lessened, Near, Exactly, Smallest};
-ghost use Rattle.areas.specs.Areas.{Stale, area_fits, rows, met};
+ghost use Rattle.std.specs.Prelude.{◌≡◌, ℕ, ◌<◌, true, ◌⊎◌, IfSome, Some};
+ghost use Rattle.areas.specs.Areas.{Stale, area_fits, met, rows};
+ghost use Rattle.areas.specs.Rects.{Exactly, Fits, Holds, InReach, Smallest, hull, joined};
+ghost use Rattle.areas.specs.Rects.{lessened, rect_on, stretch_fits, whole, widened};
 ghost use Rattle.planes.specs.declared.size.Size.{Size};
-ghost use Rattle.std.specs.Prelude.{◌≡◌, ℕ, ◌+◌, ◌-◌, ◌<◌, ◌≤◌, true, ◌&&◌, ◌⊎◌, IfSome, Some, nat_le, nat_lt};
 
 use planes::size::Size;
 use recipes::recipe::Stage;
@@ -18,12 +19,13 @@ pub struct Rect {
 }
 
 impl Rect {
-    /// The rectangle of a corner, a width and a height, if it has a pixel and lies wholly on the card.
+    /// The rectangle of a corner, a width and a height, if it has a pixel and lies wholly on the
+    /// card.
     pub fn on(size: Size, x: usize, y: usize, width: usize, height: usize) -> Option<Rect>
         ensures answer { result ≡ rect_on size x y width height }
         ensures fits { IfSome result (Fits size) }
     {
-        let within = holds(x, width, size.width) && holds(y, height, size.height);
+        let within = stretch_fits(x, width, size.width) && stretch_fits(y, height, size.height);
         within.then(|| Rect {
             left: x,
             top: y,
@@ -47,7 +49,7 @@ impl Rect {
     /// The rectangle, widened by a stage's reach on each side and cut to the card.
     pub fn widened(self, size: Size, stage: &Stage) -> Rect
         ensures answer { result ≡ widened size stage.now self }
-        ensures exact { Fits size self → Exactly result (Near size stage.now (Holds self)) }
+        ensures exact { Fits size self → Exactly result (InReach size stage.now (Holds self)) }
     {
         let reach = stage.element.reach();
         let (x, y) = (reach.x as usize, reach.y as usize);
@@ -62,7 +64,8 @@ impl Rect {
     /// The smallest rectangle that holds this one and the old area.
     pub fn joined(self, old: Option<Rect>) -> Rect
         ensures answer { result ≡ joined self old }
-        ensures smallest { (size : Size) → Fits size self → area_fits size old ≡ true → Smallest result (λ x y. Holds self x y ⊎ Stale old x y) }
+        ensures smallest { (size : Size) → Fits size self → area_fits size old ≡ true
+            → Smallest result (λ x y. Holds self x y ⊎ Stale old x y) }
     {
         old.map_or(self, |old| self.hull(old))
     }
@@ -106,8 +109,8 @@ impl Rect {
 }
 
 /// Whether so many places from one on, at least one, lie before the end.
-fn holds(from: usize, many: usize, end: usize) -> bool
-    ensures { result ≡ (nat_lt 0 many && nat_le (from + many) end) }
+fn stretch_fits(from: usize, many: usize, end: usize) -> bool
+    ensures { result ≡ stretch_fits from many end }
 {
     0 < many && many <= end && from <= end - many
 }

@@ -7,7 +7,7 @@ use Rattle.planes.specs.Sizes.{Limits}
 use Rattle.recipes.specs.declared.draft.Draft.{Draft}
 use Rattle.recipes.specs.Drafts.{steps_of}
 use Rattle.areas.specs.Rects.{Fits, rect_on}
-use Rattle.areas.specs.Areas.{on_card, stale_rows}
+use Rattle.areas.specs.Areas.{areas_fit, stale_rows}
 use Rattle.stages.specs.Stages.{Picture}
 use Rattle.tones.specs.Kind.{Kind, Laws}
 use Rattle.calls.specs.Calls.{Notes, Open, State, Call, Answer, room}
@@ -133,7 +133,7 @@ module _ {T R : Type 0} (K : Kind T R) (size : Size) (most : ℕ) (first : Pictu
 
 -- so a run keeps it
 pub kept_run : {T R : Type 0} (K : Kind T R) → Laws K → (size : Size) (most : ℕ) (st : State R) → Begun size most st → (h : History R) (at : State R) → Run K st h at → Kept K size most (opening K size st) h at
-unfolding in_force stale raw on_card Right
+unfolding in_force stale raw areas_fit Right
 kept_run K law size most st begun h at none = record {
   notes = begun.notes;
   sound = record { long = begun.memory; few = omega arith; fit = refl; raw = λ x y on out. refl; right = tt };

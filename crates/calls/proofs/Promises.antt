@@ -1,5 +1,5 @@
 -- A card just opened keeps its promise in every run of calls.
-use Rattle.std.proofs.Common.{◌≡◌, ℕ, ◌+◌, ◌≤◌, min, true, leb, List, ◌∷◌, ◌++◌, is_some, Some, None, Option, sym, refl, ap, ◌∙◌, subst, arith}
+use Rattle.std.proofs.Common.{◌≡◌, ℕ, ◌+◌, true, leb, List, ◌++◌, is_some, Some, None, Option, sym, refl, ap, ◌∙◌, subst, arith}
 use Rattle.std.proofs.lemmas.Bool.{false≢true}
 use Rattle.planes.specs.declared.size.Size.{Size}
 use Rattle.areas.specs.declared.rect.Rect.{Rect}
@@ -11,17 +11,14 @@ use Rattle.filters.proofs.Cuts.{goes_with_cuts}
 use Rattle.filters.proofs.Monotony.{keeps_order}
 use Rattle.filters.proofs.Same.{made_alike}
 use Rattle.recipes.specs.declared.recipe.Stage.{Stage}
-use Rattle.recipes.specs.Same.{SameRecipe}
 use Rattle.tones.specs.Kind.{Kind, Laws}
 use Rattle.tones.specs.Marks.{mark}
 use Rattle.calls.specs.Calls.{State, Answer}
 use Rattle.calls.specs.Calls.Call.{Row}
 use Rattle.calls.specs.Calls.Answer.{Done, Number, Piece, Next, Refused, Met}
-use Rattle.calls.specs.Outcomes.{Outcome}
 use Rattle.calls.specs.History.{History, in_force, stale, raw}
-use Rattle.calls.specs.History.Event.{Worked}
-use Rattle.calls.specs.Runs.{Run, Begun, only_work, budgets, Shows, PieceSays, RowSays}
-use Rattle.calls.specs.Promise.{rows_left, opening, raw_card, finished_card, Settled, OrderKept, FewerLeft, HandedOut, ComesClean, FinishesRight, FinishesWithCuts, FinishesInOrder, Promise, KeepsPromise}
+use Rattle.calls.specs.Runs.{Run, Begun, only_work, Shows, PieceSays, RowSays}
+use Rattle.calls.specs.Promise.{opening, raw_card, finished_card, FewerLeft, ComesClean, FinishesRight, FinishesWithCuts, FinishesInOrder, Promise, KeepsPromise}
 use Rattle.calls.proofs.Lessening.{rows_less, last_clean}
 use Rattle.calls.proofs.Rightness.{finished_clean}
 use Rattle.calls.proofs.Keeping.{Kept, kept_run}

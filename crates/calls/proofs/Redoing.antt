@@ -6,7 +6,7 @@ use Rattle.planes.specs.Sizes.{area, start}
 use Rattle.recipes.specs.declared.recipe.Stage.{Stage}
 use Rattle.areas.specs.declared.rect.Rect.{Rect}
 use Rattle.areas.specs.Rects.{Fits, fits, lessened}
-use Rattle.areas.specs.Areas.{Area, on_card, dropped}
+use Rattle.areas.specs.Areas.{Area, areas_fit, dropped}
 use Rattle.areas.proofs.Fitting.{fits_true}
 use Rattle.stages.specs.Planes.{line, blank}
 use Rattle.stages.specs.Rows.{row_made}
@@ -92,23 +92,23 @@ module _ {T R : Type 0} (K : Kind T R) (law : Laws K) (size : Size) (most : ℕ)
     ]
 
   -- a task keeps the length, and every plane up to the one that its stages begin over
-  pub task_length : (j : ℕ) (ss : List Stage) (bs : List Area) → j + length ss ≤ most → on_card size bs ≡ true → length (task_made K size (task_from j ss bs) m) ≡ length m
-  unfolding task_from on_card
+  pub task_length : (j : ℕ) (ss : List Stage) (bs : List Area) → j + length ss ≤ most → areas_fit size bs ≡ true → length (task_made K size (task_from j ss bs) m) ≡ length m
+  unfolding task_from areas_fit
   task_length j [] bs few fit = refl
   task_length j (s ∷ ss) [] few fit = refl
   task_length j (s ∷ ss) (None ∷ bs) few fit = task_length (suc j) ss bs (omega arith) fit
-  task_length j (s ∷ ss) (Some r ∷ bs) few fit = row_length s j r (fits_true size r (and_parts (fits size r) (on_card size bs) fit).0) (omega arith)
+  task_length j (s ∷ ss) (Some r ∷ bs) few fit = row_length s j r (fits_true size r (and_parts (fits size r) (areas_fit size bs) fit).0) (omega arith)
 
-  pub task_below : (j : ℕ) (ss : List Stage) (bs : List Area) → j + length ss ≤ most → on_card size bs ≡ true → (i : ℕ) → i ≤ j → SamePlane K size i m (task_made K size (task_from j ss bs) m)
-  unfolding task_from on_card
+  pub task_below : (j : ℕ) (ss : List Stage) (bs : List Area) → j + length ss ≤ most → areas_fit size bs ≡ true → (i : ℕ) → i ≤ j → SamePlane K size i m (task_made K size (task_from j ss bs) m)
+  unfolding task_from areas_fit
   task_below j [] bs few fit i h x y on = refl
   task_below j (s ∷ ss) [] few fit i h x y on = refl
   task_below j (s ∷ ss) (None ∷ bs) few fit i h x y on = task_below (suc j) ss bs (omega arith) fit i (omega arith) x y on
-  task_below j (s ∷ ss) (Some r ∷ bs) few fit i h x y on = row_plane s j r (fits_true size r (and_parts (fits size r) (on_card size bs) fit).0) (omega arith) i (λ e. omega arith) x y on
+  task_below j (s ∷ ss) (Some r ∷ bs) few fit i h x y on = row_plane s j r (fits_true size r (and_parts (fits size r) (areas_fit size bs) fit).0) (omega arith) i (λ e. omega arith) x y on
 
   -- over a plane that is wholly right, a task leaves every plane right
-  pub task_right : (j : ℕ) (f : Picture T) (ss : List Stage) (bs : List Area) → j + length ss ≤ most → on_card size bs ≡ true → Agrees K size j f None m → Right K size j f m ss bs → Right K size j f (task_made K size (task_from j ss bs) m) ss (dropped bs)
-  unfolding task_from on_card dropped Right
+  pub task_right : (j : ℕ) (f : Picture T) (ss : List Stage) (bs : List Area) → j + length ss ≤ most → areas_fit size bs ≡ true → Agrees K size j f None m → Right K size j f m ss bs → Right K size j f (task_made K size (task_from j ss bs) m) ss (dropped bs)
+  unfolding task_from areas_fit dropped Right
   task_right j f [] [] few fit below right = right
   task_right j f [] (b ∷ bs) few fit below right = absurd right
   task_right j f (s ∷ ss) [] few fit below right = right
@@ -117,7 +117,7 @@ module _ {T R : Type 0} (K : Kind T R) (law : Laws K) (size : Size) (most : ℕ)
     task_right (suc j) (λ x y. cleaned K size s f x y) ss bs (omega arith) fit right.0 right.1,
   )
   task_right j f (s ∷ ss) (Some r ∷ bs) few fit below right =
-      let on = fits_true size r (and_parts (fits size r) (on_card size bs) fit).0 in
+      let on = fits_true size r (and_parts (fits size r) (areas_fit size bs) fit).0 in
       let one : suc j ≤ most = omega arith in (
         row_right s j r on one f below right.0,
         right_kept K size (suc j) (λ x y. cleaned K size s f x y) m (after s j r on one) ss bs (λ i h. row_plane s j r on one i (λ e. omega arith)) right.1,

@@ -2,7 +2,7 @@
 use Rattle.std.proofs.Common.{◌≡◌, ℕ, suc, ◌+◌, ◌<◌, true, List, [], ◌∷◌, length, None, refl, ◌∙◌, subst, arith}
 use Rattle.planes.specs.declared.size.Size.{Size}
 use Rattle.recipes.specs.declared.recipe.Stage.{Stage}
-use Rattle.areas.specs.Areas.{Area, Stale, on_card, stale_rows, last_area}
+use Rattle.areas.specs.Areas.{Area, Stale, areas_fit, stale_rows, last_area}
 use Rattle.stages.specs.Stages.{Picture, cleaned, made}
 use Rattle.filters.specs.Morphology.{On}
 use Rattle.tones.specs.Kind.{Kind}
@@ -65,7 +65,7 @@ module _ {T R : Type 0} (K : Kind T R) (size : Size) where
         (subst (λ k. Agrees k (made K size ss f) (last_area (None ∷ bs)) m) e (finished 0 f m ss None bs below right))
 
     -- and everywhere on the card where nothing is stale
-    pub finished_clean : on_card size bs ≡ true → stale_rows bs ≡ 0 → (x y : ℕ) → On size x y → plane K size (length ss) m x y ≡ made K size ss f x y
+    pub finished_clean : areas_fit size bs ≡ true → stale_rows bs ≡ 0 → (x y : ℕ) → On size x y → plane K size (length ss) m x y ≡ made K size ss f x y
     finished_clean fit clean x y on =
         let none : Stale (last_area bs) x y → ⊥ = λ t. subst (λ a. Stale a x y) (last_clean size bs fit clean) t in
         finished_right x y on none

@@ -6,8 +6,8 @@ use Rattle.planes.specs.Sizes.{Limits, start}
 use Rattle.recipes.specs.declared.recipe.Stage.{Stage}
 use Rattle.areas.specs.declared.rect.Rect.{Rect}
 use Rattle.areas.specs.Rects.{Fits}
-use Rattle.areas.specs.Areas.{Area, on_card, all_stale, spread, dropped}
-use Rattle.areas.proofs.Fitting.{on_card_all, on_card_dropped, on_card_spread}
+use Rattle.areas.specs.Areas.{Area, areas_fit, all_stale, spread, dropped}
+use Rattle.areas.proofs.Fitting.{areas_fit_all, areas_fit_dropped, areas_fit_spread}
 use Rattle.stages.specs.Stages.{Picture, cleaned}
 use Rattle.tones.specs.Kind.{Kind, Laws}
 use Rattle.calls.specs.Calls.{Notes, Open}
@@ -23,7 +23,7 @@ use Rattle.calls.proofs.Laying.{RowsFit, laid_length, laid_painted, laid_above}
 pub record Sound {T R : Type 0} (K : Kind T R) (size : Size) (most : ℕ) (f : Picture T) (m : List R) (ss : List Stage) (bs : List Area) : Type 0 where
   pub long : length m ≡ start size (suc most)
   pub few : length ss ≤ most
-  pub fit : on_card size bs ≡ true
+  pub fit : areas_fit size bs ≡ true
   pub raw : Agrees K size 0 f None m
   pub right : Right K size 0 f m ss bs
 
@@ -48,7 +48,7 @@ module _ {T R : Type 0} (K : Kind T R) (law : Laws K) (size : Size) (most : ℕ)
       record {
         long = task_length K law size most m sound.long 0 ss bs few sound.fit ∙ sound.long;
         few = sound.few;
-        fit = on_card_dropped size bs sound.fit;
+        fit = areas_fit_dropped size bs sound.fit;
         raw = agrees_kept K size 0 f None m _ (task_below K law size most m sound.long 0 ss bs few sound.fit 0 (omega arith)) sound.raw;
         right = task_right K law size most m sound.long 0 f ss bs few sound.fit sound.raw sound.right;
       }
@@ -62,7 +62,7 @@ module _ {T R : Type 0} (K : Kind T R) (law : Laws K) (size : Size) (most : ℕ)
       record {
         long = laid_length K law size most x y w tones m across sound.long h rows ∙ sound.long;
         few = sound.few;
-        fit = on_card_spread size ss r bs fits sound.fit;
+        fit = areas_fit_spread size ss r bs fits sound.fit;
         raw = laid_painted K law size most x y w tones m across sound.long h rows f sound.raw;
         right = spread_right K size 0 f (painted K r tones f) m _ ss r bs (laid_above K law size most x y w tones m across sound.long h rows) (painted_outside K size r tones f) sound.right;
       }
@@ -72,7 +72,7 @@ module _ {T R : Type 0} (K : Kind T R) (law : Laws K) (size : Size) (most : ℕ)
   sound_install limits new few = record {
     long = sound.long;
     few = few;
-    fit = on_card_all size new limits;
+    fit = areas_fit_all size new limits;
     raw = sound.raw;
     right = all_right K size 0 f m new;
   }

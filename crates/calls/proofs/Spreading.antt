@@ -5,7 +5,7 @@ use Rattle.recipes.specs.declared.recipe.Stage.{Stage}
 use Rattle.areas.specs.declared.rect.Rect.{Rect}
 use Rattle.areas.specs.Rects.{Holds, widened, joined}
 use Rattle.areas.specs.Areas.{Area, spread}
-use Rattle.areas.proofs.Spreading.{near_widened, joined_holds}
+use Rattle.areas.proofs.Spreading.{in_reach_widened, joined_holds}
 use Rattle.stages.specs.Stages.{Picture, cleaned}
 use Rattle.filters.specs.Morphology.{On}
 use Rattle.filters.proofs.Locality.{local}
@@ -22,14 +22,14 @@ module _ {T R : Type 0} (K : Kind T R) (size : Size) where
   cleaned_outside : (s : Stage) (r : Rect) (f g : Picture T) → SameOutside size r f g → SameOutside size (widened size s r) (λ x y. cleaned K size s f x y) (λ x y. cleaned K size s g x y)
   cleaned_outside s r f g same x y on out =
       local K size s f g x y (λ u v at across down. elim (cases_holds r u v) [
-        | inl h ↦ absurd (out (near_widened size s r x y (record {
+        | inl h ↦ absurd (out (in_reach_widened size s r x y (record {
           column = on.0;
           row = on.1;
           other_x = u;
           other_y = v;
           there = h;
-          across_within = record { below = across.1; above = across.0 };
-          down_within = record { below = down.1; above = down.0 };
+          across_within = across;
+          down_within = down;
         })))
         | inr n ↦ same u v at n
       ])

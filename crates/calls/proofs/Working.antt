@@ -2,7 +2,7 @@
 use Rattle.std.proofs.Common.{◌≡◌, ◌-◌, Bool, true, false, cond, [], ◌∷◌, ◌++◌, refl, subst, arith}
 use Rattle.std.proofs.lemmas.Bool.{false≢true}
 use Rattle.planes.specs.declared.size.Size.{Size}
-use Rattle.areas.specs.Areas.{on_card, stale_rows}
+use Rattle.areas.specs.Areas.{areas_fit, stale_rows}
 use Rattle.stages.specs.Stages.{Picture}
 use Rattle.tones.specs.Kind.{Kind}
 use Rattle.calls.specs.Calls.{State, Call, Answer}
@@ -12,7 +12,7 @@ use Rattle.calls.specs.History.{Event, History, accepted, noted, in_force, stale
 use Rattle.calls.specs.History.Event.{Patched, Installed, Worked}
 use Rattle.calls.specs.Runs.{Run, only_work, budgets}
 use Rattle.calls.specs.Runs.Run.{none, more}
-use Rattle.calls.proofs.Lessening.{on_card_less, rows_less}
+use Rattle.calls.proofs.Lessening.{areas_fit_less, rows_less}
 
 -- a call is noted after an earlier history as after none
 noted_either : {R : Type 0} (b : Bool) (e : Event R) (g h : History R) → cond b (e ∷ (g ++ h)) (g ++ h) ≡ cond b (e ∷ g) g ++ h
@@ -49,14 +49,14 @@ raw_on K first (Installed d ∷ g) h only = absurd (false≢true only)
 raw_on K first (Worked budget ∷ g) h only = raw_on K first g h only
 
 -- and it takes its budgets from the stale rows
-fit_on : {R : Type 0} (size : Size) (g h : History R) → only_work g ≡ true → on_card size (stale size h) ≡ true → on_card size (stale size (g ++ h)) ≡ true
+fit_on : {R : Type 0} (size : Size) (g h : History R) → only_work g ≡ true → areas_fit size (stale size h) ≡ true → areas_fit size (stale size (g ++ h)) ≡ true
 unfolding only_work stale
 fit_on size [] h only fit = fit
 fit_on size (Patched r tones ∷ g) h only fit = absurd (false≢true only)
 fit_on size (Installed d ∷ g) h only fit = absurd (false≢true only)
-fit_on size (Worked budget ∷ g) h only fit = on_card_less size budget (stale size (g ++ h)) (fit_on size g h only fit)
+fit_on size (Worked budget ∷ g) h only fit = areas_fit_less size budget (stale size (g ++ h)) (fit_on size g h only fit)
 
-pub rows_on : {R : Type 0} (size : Size) (g h : History R) → only_work g ≡ true → on_card size (stale size h) ≡ true → stale_rows (stale size (g ++ h)) ≡ stale_rows (stale size h) - budgets g
+pub rows_on : {R : Type 0} (size : Size) (g h : History R) → only_work g ≡ true → areas_fit size (stale size h) ≡ true → stale_rows (stale size (g ++ h)) ≡ stale_rows (stale size h) - budgets g
 unfolding only_work stale budgets
 rows_on size [] h only fit = omega arith
 rows_on size (Patched r tones ∷ g) h only fit = absurd (false≢true only)

@@ -7,7 +7,7 @@ use Rattle.recipes.specs.declared.draft.Draft.{Draft}
 use Rattle.recipes.specs.declared.draft.Letter.TheVariants as letter
 use Rattle.selectors.specs.Bag.{below}
 use Rattle.stages.specs.Planes.{blank}
-use Rattle.stages.specs.Stages.{cleaned, made, ranked, window}
+use Rattle.stages.specs.Stages.{cleaned, made, ranked_code, window}
 use Rattle.tones.specs.Greys.{greys}
 use Rattle.cases.specs.Examples.{OneStageRules, TwoStageRules, history}
 use Rattle.cases.specs.Samples.{ECross, OCross, card, three}
@@ -15,7 +15,7 @@ use Rattle.cases.proofs.OneStep.{every_cross}
 
 -- the pixel (2, 0) of what E makes of the raw card with any tone in its corner
 shown : (d : Draft) → ECross d → (t i : ℕ) → i < 1 → greys.counted (get_or (30 ∷ []) i (blank greys)) ≡ made greys three (in_force (history d 3 t)) (raw greys card (history d 3 t)) (2 + i) 0
-unfolding below cleaned in_force made ranked raw window
+unfolding below cleaned in_force made ranked_code raw window
 shown d o t zero l =
     every_cross 69 letter.Erosion (λ d. greys.counted 30 ≡ made greys three (in_force (history d 3 t)) (raw greys card (history d 3 t)) 2 0) refl (λ a b. refl) d o
 shown d o t (suc i) l = absurd (omega arith)

@@ -7,9 +7,9 @@ use Rattle.selectors.specs.Bag.{below}
 use Rattle.selectors.specs.Calls.{Selected}
 use Rattle.selectors.specs.declared.refusals.SelectRefusal.{SelectRefusal}
 use Rattle.selectors.specs.declared.refusals.SelectRefusal.TheVariants.{Unranked}
-use Rattle.tones.specs.Colours.{Making, colours, lawful, parts}
+use Rattle.tones.specs.Colours.{Making, colours, is_colour_row, parts}
 use Rattle.tones.specs.Refusals.{refusal_number}
-use Rattle.tones.specs.declared.kinds.Colour.{Colour}
+use Rattle.tones.specs.declared.colours.Colour.{Colour}
 use Rattle.tones.specs.declared.refusals.ToneRefusal.{ToneRefusal}
 use Rattle.cases.specs.Examples.{AtRank, ColourExamples, SelectorExamples, weighed}
 
@@ -39,7 +39,7 @@ selector_examples =
     }
 
 -- parts within the limits are not refused, and the code is that of the parts
-coded : (h s v : ℕ) → lawful (parts h s v) ≡ true → (r : Result Colour ToneRefusal) → Making (parts h s v) r → MatchResult r (λ c. colours.code c ≡ (v * 256 + 255 - s) * 360 + h) (λ e. ⊥)
+coded : (h s v : ℕ) → is_colour_row (parts h s v) ≡ true → (r : Result Colour ToneRefusal) → Making (parts h s v) r → MatchResult r (λ c. colours.code c ≡ (v * 256 + 255 - s) * 360 + h) (λ e. ⊥)
 coded h s v l (Ok c) m = ap (λ r. (r.brightness * 256 + 255 - r.saturation) * 360 + r.hue) m
 coded h s v l (Err e) m = absurd (true≢false (sym l ∙ m.1))
 

@@ -8,7 +8,7 @@ use Rattle.recipes.specs.Reaches.{reach}
 use Rattle.recipes.specs.declared.draft.Letter.TheVariants as letter
 use Rattle.selectors.specs.Bag.{below}
 use Rattle.stages.specs.Planes.{line}
-use Rattle.stages.specs.Stages.{cleaned, made, ranked, window}
+use Rattle.stages.specs.Stages.{cleaned, made, ranked_code, window}
 use Rattle.cases.specs.Samples.{Each, Makes, left_places, right_places, skew_places, uneven_places}
 use Rattle.cases.specs.Sides.{SideExamples, SkewAreas, SkewCard, SkewExamples}
 use Rattle.cases.proofs.OneStep.{ElementParts, each}
@@ -30,7 +30,7 @@ unfolding lawful apart
 skew_parts = record { rest = replicate 47 origin; long = refl; within = lit≤ tt; sound = refl }
 
 pub side_examples : SideExamples
-unfolding made cleaned ranked window below
+unfolding made cleaned ranked_code window below
 side_examples = record {
   right_dilation = each 68 letter.Dilation refl right_parts refl (Makes _) (λ a b. refl);
   right_erosion = each 69 letter.Erosion refl right_parts refl (Makes _) (λ a b. refl);
@@ -41,7 +41,7 @@ side_examples = record {
 }
 
 skew_cards : Each 69 skew_places 1 (λ d. (w : ℕ → ℕ) (t : ℕ) → SkewCard d w t)
-unfolding below cleaned dropped laid last_area line lowest_from ranked reach redone_rows spread stale_rows task_from window
+unfolding below cleaned dropped laid last_area line lowest_from ranked_code reach redone_rows spread stale_rows task_from window
 skew_cards = each 69 letter.Erosion refl skew_parts refl (λ d. (w : ℕ → ℕ) (t : ℕ) → SkewCard d w t) (λ a b w t. record {
   installs = refl;
   works = refl;

@@ -35,9 +35,9 @@ use Rattle.tones.specs.Colours.{colour, colours, parts, Making}
 use Rattle.tones.specs.Greys.{greys}
 use Rattle.tones.specs.Refusals.{refusal_number as tone_number}
 use Rattle.tones.specs.Reliefs.{reliefs}
-use Rattle.tones.specs.declared.kinds.Colour.{Colour}
-use Rattle.tones.specs.declared.kinds.Grey.{Grey}
-use Rattle.tones.specs.declared.kinds.Relief.{Relief}
+use Rattle.tones.specs.declared.colours.Colour.{Colour}
+use Rattle.tones.specs.declared.greys.Grey.{Grey}
+use Rattle.tones.specs.declared.reliefs.Relief.{Relief}
 use Rattle.tones.specs.declared.refusals.ToneRefusal.{ToneRefusal}
 use Rattle.tones.specs.declared.refusals.ToneRefusal.TheVariants.{OutsideLimits}
 use Rattle.cases.specs.Sides.{SideExamples, SkewExamples}

@@ -20,7 +20,7 @@ use Rattle.recipes.specs.declared.shapes.Shape.TheVariants.{Cross}
 use Rattle.stages.specs.Planes.{picture}
 use Rattle.stages.specs.Stages.{Picture, made}
 use Rattle.tones.specs.Greys.{greys}
-use Rattle.tones.specs.declared.kinds.Grey.{Grey}
+use Rattle.tones.specs.declared.greys.Grey.{Grey}
 
 -- a draft declares one step and has it: that of a letter, given by its code, with an element of
 -- these places and this order

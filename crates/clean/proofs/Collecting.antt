@@ -11,7 +11,7 @@ use Rattle.areas.specs.Rects.{rect_on}
 use Rattle.stages.specs.Planes.{line}
 use Rattle.filters.specs.Restaging.{lines}
 use Rattle.tones.specs.Greys.{greys}
-use Rattle.tones.specs.declared.kinds.Grey.{Grey}
+use Rattle.tones.specs.declared.greys.Grey.{Grey}
 use Rattle.calls.specs.declared.refusals.Refusal.{Refusal}
 use Rattle.calls.specs.Calls.{Notes, State, piece}
 use Rattle.calls.specs.Calls.Answer.{Piece, Refused}

@@ -6,7 +6,7 @@ use Rattle.recipes.specs.Placed.{placed}
 use Rattle.recipes.specs.Recipes.{eroding}
 use Rattle.recipes.specs.declared.element.Element.{Element}
 use Rattle.recipes.specs.declared.places.Place.{Place}
-use Rattle.stages.specs.Stages.{weight, inside, code_at, adds, window, ranked, cleaned}
+use Rattle.stages.specs.Stages.{weight, inside, code_at, adds, window, ranked_code, cleaned}
 use Rattle.filters.specs.Restaging.{lines}
 use Rattle.tones.specs.Greys.{greys}
 use Rattle.clean.specs.Cleaning.{CrossOfOrder2, Shades, eroded, pictured}
@@ -22,8 +22,8 @@ module _ (d e : Element) (order : d.order ≡ e.order) (s : Size) (f : Shades) (
   cleaned_alike : placed d ≡ placed e → cleaned greys s (eroding d) f x y ≡ cleaned greys s (eroding e) f x y
   unfolding cleaned
   cleaned_alike places =
-      ap (λ b. greys.tone (ranked b d.order 256)) (fun_ext (λ c. window_alike (placed d) c ∙ ap (λ ps. window greys s (eroding e) f x y ps c) places))
-      ∙ ap (λ k. greys.tone (ranked (λ c. window greys s (eroding e) f x y (placed e) c) k 256)) order
+      ap (λ b. greys.tone (ranked_code b d.order 256)) (fun_ext (λ c. window_alike (placed d) c ∙ ap (λ ps. window greys s (eroding e) f x y ps c) places))
+      ∙ ap (λ k. greys.tone (ranked_code (λ c. window greys s (eroding e) f x y (placed e) c) k 256)) order
 
 -- so every cross of order 2 gives the same tones
 pub eroded_alike : (d e : Element) → CrossOfOrder2 d → CrossOfOrder2 e → (s : Size) (samples : List ℕ) → eroded d s samples ≡ eroded e s samples

@@ -17,7 +17,7 @@ use Rattle.selectors.specs.declared.histogram.Histogram.{Histogram}
 use Rattle.stages.specs.Planes.{picture}
 use Rattle.stages.specs.Stages.{Picture, cleaned}
 use Rattle.tones.specs.Greys.{greys}
-use Rattle.tones.specs.declared.kinds.Grey.{Grey}
+use Rattle.tones.specs.declared.greys.Grey.{Grey}
 
 abbrev pub size : ℕ → ℕ → Size
 size width height = record { width = width; height = height }

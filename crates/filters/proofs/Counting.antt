@@ -8,8 +8,8 @@ use Rattle.selectors.specs.Bag.{below}
 use Rattle.selectors.proofs.Sums.{below_suc}
 use Rattle.stages.specs.Stages.{Picture, bag, rank, cleaned}
 use Rattle.stages.proofs.Cleaning.{total_least}
-use Rattle.tones.specs.declared.kinds.Mark.{Mark}
-use Rattle.tones.specs.declared.kinds.Mark.TheVariants.{No, Yes}
+use Rattle.tones.specs.declared.marks.Mark.{Mark}
+use Rattle.tones.specs.declared.marks.Mark.TheVariants.{No, Yes}
 use Rattle.tones.specs.MarkLaws.{mark_laws}
 use Rattle.tones.specs.Marks.{marks, mark_code}
 use Rattle.filters.specs.Morphology.{On, MarksCount, yes_weight, all_weight}

@@ -13,7 +13,7 @@ use Rattle.recipes.specs.Placed.{placed}
 use Rattle.recipes.specs.Recipes.{places_within, amounts_within}
 use Rattle.selectors.specs.Bag.{below}
 use Rattle.stages.specs.Stages.{Picture, target, rank_of, inside, read, bag, rank, cleaned, made, shifted}
-use Rattle.tones.specs.declared.kinds.Mark.{Mark}
+use Rattle.tones.specs.declared.marks.Mark.{Mark}
 use Rattle.tones.specs.Kind.{Kind, Laws}
 use Rattle.tones.specs.MarkLaws.{mark_laws}
 use Rattle.tones.specs.Marks.{marks, mark, mark_code}

@@ -6,12 +6,12 @@ use Rattle.planes.specs.declared.size.Size.{Size}
 use Rattle.planes.specs.Sizes.{area, start, cell}
 use Rattle.recipes.specs.declared.recipe.Stage.{Stage}
 use Rattle.stages.specs.Planes.{picture, line, overwritten}
-use Rattle.stages.specs.Rows.{row_made, row_weights}
+use Rattle.stages.specs.Rows.{picture_made, row_made, row_weights}
 use Rattle.stages.specs.Stages.{Picture, bag}
 use Rattle.stages.proofs.Lines.{line_length, overwritten_none, overwritten_same}
 use Rattle.stages.proofs.Pictures.{bag_same, cleaned_same}
 use Rattle.tones.specs.Kind.{Kind}
-use Rattle.filters.specs.Restaging.{lines, staged, rows_made}
+use Rattle.filters.specs.Restaging.{lines, rows_made}
 use Rattle.filters.proofs.Overwriting.{overwritten_on}
 
 -- a plane ends where the next begins
@@ -48,23 +48,23 @@ module _ {T R : Type 0} (K : Kind T R) where
 
     -- while the rows of the later plane are written, the earlier one is as it was
     module _ (s : Stage) (from into : ℕ) (m : List R) (apart : from + area size ≤ into) (room : into + area size ≤ length m) (y : ℕ) (down : y < size.height) where
-      row_fits : into + length (lines K size (staged K size s from m) y) ≤ length m
+      row_fits : into + length (lines K size (picture_made K size s from m) y) ≤ length m
       row_fits =
           let h : y ≤ size.height = omega arith in
-          omega (arith, room, length_lines (staged K size s from m) y, mul-le-mul_right size.width h, mul_comm size.height size.width)
+          omega (arith, room, length_lines (picture_made K size s from m) y, mul-le-mul_right size.width h, mul_comm size.height size.width)
 
       kept : (a : List R) (u v : ℕ) → u < size.width → v < size.height → picture K size from (overwritten m into a) u v ≡ picture K size from m u v
       kept a = overwritten_same K size from into m a apart (omega (arith, room))
 
-      line_kept : (a : List R) → line K (staged K size s from (overwritten m into a)) y 0 size.width ≡ line K (staged K size s from m) y 0 size.width
-      line_kept a = line_same (staged K size s from (overwritten m into a)) (staged K size s from m) y 0 size.width (λ x. cleaned_same K size s (picture K size from (overwritten m into a)) (picture K size from m) (kept a) x y)
+      line_kept : (a : List R) → line K (picture_made K size s from (overwritten m into a)) y 0 size.width ≡ line K (picture_made K size s from m) y 0 size.width
+      line_kept a = line_same (picture_made K size s from (overwritten m into a)) (picture_made K size s from m) y 0 size.width (λ x. cleaned_same K size s (picture K size from (overwritten m into a)) (picture K size from m) (kept a) x y)
 
-      row_on : overwritten (rows_made K size s from into m y) (into + cell size 0 y) (line K (staged K size s from (rows_made K size s from into m y)) y 0 size.width) ≡ rows_made K size s from into m (y + 1)
+      row_on : overwritten (rows_made K size s from into m y) (into + cell size 0 y) (line K (picture_made K size s from (rows_made K size s from into m y)) y 0 size.width) ≡ rows_made K size s from into m (y + 1)
       row_on =
-          let k : into + cell size 0 y ≡ into + length (lines K size (staged K size s from m) y) = omega (arith, length_lines (staged K size s from m) y) in
-          ap₂ (λ i new. overwritten (rows_made K size s from into m y) i new) k (line_kept (lines K size (staged K size s from m) y))
-          ∙ (overwritten_on m into (lines K size (staged K size s from m) y) (line K (staged K size s from m) y 0 size.width) row_fits
-          ∙ ap (overwritten m into) (sym (lines_more (staged K size s from m) y)))
+          let k : into + cell size 0 y ≡ into + length (lines K size (picture_made K size s from m) y) = omega (arith, length_lines (picture_made K size s from m) y) in
+          ap₂ (λ i new. overwritten (rows_made K size s from into m y) i new) k (line_kept (lines K size (picture_made K size s from m) y))
+          ∙ (overwritten_on m into (lines K size (picture_made K size s from m) y) (line K (picture_made K size s from m) y 0 size.width) row_fits
+          ∙ ap (overwritten m into) (sym (lines_more (picture_made K size s from m) y)))
 
       module _ (now : List R) (so_far : now ≡ rows_made K size s from into m y) where
         -- a row more
@@ -72,8 +72,8 @@ module _ {T R : Type 0} (K : Kind T R) where
         rows_more next is =
             let n : size.width - 0 ≡ size.width = omega arith in
             is
-            ∙ (ap (λ k. overwritten now (into + cell size 0 y) (line K (staged K size s from now) y 0 k)) n
-            ∙ (ap (λ k. overwritten k (into + cell size 0 y) (line K (staged K size s from k) y 0 size.width)) so_far
+            ∙ (ap (λ k. overwritten now (into + cell size 0 y) (line K (picture_made K size s from now) y 0 k)) n
+            ∙ (ap (λ k. overwritten k (into + cell size 0 y) (line K (picture_made K size s from k) y 0 size.width)) so_far
             ∙ row_on))
 
         -- and the window of its last pixel
@@ -83,5 +83,5 @@ module _ {T R : Type 0} (K : Kind T R) where
             is
             ∙ (cond-true (ltb 0 size.width) (bag K size s (picture K size from now) (size.width - 1) y c) (before c) (lt-ltb 0 size.width wide)
             ∙ (ap (λ k. bag K size s (picture K size from k) (size.width - 1) y c) so_far
-            ∙ (bag_same K size s (picture K size from (rows_made K size s from into m y)) (picture K size from m) (kept (lines K size (staged K size s from m) y)) (size.width - 1) y c
+            ∙ (bag_same K size s (picture K size from (rows_made K size s from into m y)) (picture K size from m) (kept (lines K size (picture_made K size s from m) y)) (size.width - 1) y c
             ∙ ap (λ k. bag K size s (picture K size from m) (size.width - 1) k c) n)))

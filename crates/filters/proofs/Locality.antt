@@ -9,20 +9,21 @@ use Rattle.recipes.specs.declared.places.Place.{Place}
 use Rattle.recipes.specs.declared.recipe.Operation.{Operation}
 use Rattle.recipes.specs.declared.recipe.Operation.TheVariants.{Erosion, Dilation}
 use Rattle.recipes.specs.declared.recipe.Stage.{Stage}
+use Rattle.recipes.specs.Extents.{Within}
 use Rattle.recipes.specs.Placed.{placed}
 use Rattle.recipes.specs.Reaches.{reach}
 use Rattle.recipes.proofs.Elements.{reach_bounds}
 use Rattle.selectors.specs.Bag.{below}
-use Rattle.stages.specs.Stages.{Picture, target, weight, rank_of, inside, read, code_at, window, bag, ranked, cleaned, shifted}
+use Rattle.stages.specs.Stages.{Picture, target, weight, rank_of, inside, read, code_at, window, bag, ranked_code, cleaned, shifted}
 use Rattle.tones.specs.Kind.{Kind}
-use Rattle.filters.specs.Morphology.{On, Near, sideways, upright, Local}
+use Rattle.filters.specs.Morphology.{Local, SameNear}
 use Rattle.filters.proofs.Windows.{inside_on}
 
-target_near : (o : Operation) (x u r : ℕ) (d : ℤ) → nat_abs d ≤ r → pos u ≡ target o x d → Near r x u
-target_near Erosion x u r (pos a) h e = (omega (arith, ints), omega (arith, ints))
-target_near Erosion x u r (negsuc a) h e = (omega (arith, ints), omega (arith, ints))
-target_near Dilation x u r (pos a) h e = (omega (arith, ints), omega (arith, ints))
-target_near Dilation x u r (negsuc a) h e = (omega (arith, ints), omega (arith, ints))
+target_within : (o : Operation) (x u r : ℕ) (d : ℤ) → nat_abs d ≤ r → pos u ≡ target o x d → Within r x u
+target_within Erosion x u r (pos a) h e = record { below = omega (arith, ints); above = omega (arith, ints) }
+target_within Erosion x u r (negsuc a) h e = record { below = omega (arith, ints); above = omega (arith, ints) }
+target_within Dilation x u r (pos a) h e = record { below = omega (arith, ints); above = omega (arith, ints) }
+target_within Dilation x u r (negsuc a) h e = record { below = omega (arith, ints); above = omega (arith, ints) }
 
 share_same : (b : Bool) (c d e n : ℕ) → (b ≡ true → c ≡ d) → cond {A = ℕ} (b && eqb c e) n 0 ≡ cond (b && eqb d e) n 0
 share_same true c d e n h = ap (λ k. cond {A = ℕ} (eqb k e) n 0) (h refl)
@@ -39,7 +40,7 @@ module _ {T R : Type 0} (K : Kind T R) (size : Size) (s : Stage) (f g : Picture 
       omega (arith, e, r)
 
   -- so do pictures that agree within the element's reach
-  pub bag_local : ((u v : ℕ) → On size u v → Near (sideways s.element) x u → Near (upright s.element) y v → f u v ≡ g u v) → (c : ℕ) → bag K size s f x y c ≡ bag K size s g x y c
+  pub bag_local : SameNear K size s.element x y f g → (c : ℕ) → bag K size s f x y c ≡ bag K size s g x y c
   bag_local agree = window_same ps (All-weaker (Has ps) _ alike ps (all_has_itself ps))
     where
       ps : List Place
@@ -49,11 +50,11 @@ module _ {T R : Type 0} (K : Kind T R) (size : Size) (s : Stage) (f g : Picture 
       alike p h i =
           let at = inside_on size (target s.operation x p.dx) (target s.operation y p.dy) i in
           agree _ _ at.0
-          (target_near s.operation x _ _ p.dx (all-has (λ q. nat_abs q.dx ≤ reach (λ q. q.dx) ps) ps p (reach_bounds (λ q. q.dx) ps) h) at.1)
-          (target_near s.operation y _ _ p.dy (all-has (λ q. nat_abs q.dy ≤ reach (λ q. q.dy) ps) ps p (reach_bounds (λ q. q.dy) ps) h) at.2)
+          (target_within s.operation x _ _ p.dx (all-has (λ q. nat_abs q.dx ≤ reach (λ q. q.dx) ps) ps p (reach_bounds (λ q. q.dx) ps) h) at.1)
+          (target_within s.operation y _ _ p.dy (all-has (λ q. nat_abs q.dy ≤ reach (λ q. q.dy) ps) ps p (reach_bounds (λ q. q.dy) ps) h) at.2)
 
 pub local : {T R : Type 0} (K : Kind T R) → Local K
 unfolding cleaned
 local K size s f g x y agree =
-    ap (λ (w : ℕ → ℕ). K.tone (ranked w (rank_of s.operation s.element.order (below w K.count)) K.count))
+    ap (λ (w : ℕ → ℕ). K.tone (ranked_code w (rank_of s.operation s.element.order (below w K.count)) K.count))
     (fun_ext (bag_local K size s f g x y agree))

@@ -4,10 +4,10 @@ use lib.Signed.{lt_z, le_z}
 use Rattle.std.proofs.lemmas.Int.{ints, clamps}
 use Rattle.std.proofs.lemmas.List.Sums.{sum_by-cons}
 use Rattle.std.proofs.lemmas.Bool.{cases_lt, false≢true}
-use Rattle.tones.specs.Kind.{held}
+use Rattle.tones.specs.Kind.{nearest}
 
-pub held_keeps : (low high a b : ℤ) → a ≤ℤ b → held low high a ≤ℤ held low high b
-held_keeps low high a b h = omega (arith, ints, clamps)
+pub nearest_keeps : (low high a b : ℤ) → a ≤ℤ b → nearest low high a ≤ℤ nearest low high b
+nearest_keeps low high a b h = omega (arith, ints, clamps)
 
 pub le_from : (a b : ℤ) → le_z a b ≡ true → a ≤ℤ b
 le_from a b e = record { le = subst T (sym e) tt }

@@ -9,7 +9,7 @@ use Rattle.recipes.specs.declared.recipe.Stage.{Stage}
 use Rattle.recipes.specs.Placed.{placed}
 use Rattle.recipes.specs.Same.{SameStage, SameRecipe}
 use Rattle.selectors.specs.Bag.{below}
-use Rattle.stages.specs.Stages.{Picture, target, on_card, shifted, weight, adds, bag, rank_of, ranked, cleaned, made}
+use Rattle.stages.specs.Stages.{Picture, target, on_card, shifted, weight, adds, bag, rank_of, ranked_code, cleaned, made}
 use Rattle.stages.proofs.Pictures.{SameOnCard, cleaned_same}
 use Rattle.stages.proofs.Windows.{window_sum}
 use Rattle.tones.specs.Kind.{Kind}
@@ -42,9 +42,9 @@ module _ {T R : Type 0} (K : Kind T R) (size : Size) where
     pub cleaned_alike : cleaned K size s f x y ≡ cleaned K size t f x y
     unfolding cleaned
     cleaned_alike =
-        ap (λ b. K.tone (ranked b (rank_of s.operation s.element.order (below b K.count)) K.count)) (fun_ext bag_alike)
-        ∙ ap (λ o. K.tone (ranked (bag K size t f x y) (rank_of o s.element.order (below (bag K size t f x y) K.count)) K.count)) same.operation
-        ∙ ap (λ k. K.tone (ranked (bag K size t f x y) (rank_of t.operation k (below (bag K size t f x y) K.count)) K.count)) same.element.order
+        ap (λ b. K.tone (ranked_code b (rank_of s.operation s.element.order (below b K.count)) K.count)) (fun_ext bag_alike)
+        ∙ ap (λ o. K.tone (ranked_code (bag K size t f x y) (rank_of o s.element.order (below (bag K size t f x y) K.count)) K.count)) same.operation
+        ∙ ap (λ k. K.tone (ranked_code (bag K size t f x y) (rank_of t.operation k (below (bag K size t f x y) K.count)) K.count)) same.element.order
 
   -- pictures that agree on the card are made the same there by the same recipe
   pub made_alike : (ss ts : List Stage) → SameRecipe ss ts → (f g : Picture T) → SameOnCard size f g → SameOnCard size (made K size ss f) (made K size ts g)

@@ -16,14 +16,14 @@ use Rattle.selectors.specs.Bag.{below}
 use Rattle.selectors.proofs.Ranks.{ranked_from}
 use Rattle.stages.specs.Stages.{Picture, rank_of, inside, read, code_at, bag, total, rank, cleaned, shifted}
 use Rattle.stages.proofs.Cleaning.{total_least}
-use Rattle.tones.specs.Kind.{Kind, Laws, held}
+use Rattle.tones.specs.Kind.{Kind, Laws, nearest}
 use Rattle.tones.specs.Whole.{WholeNumbers}
 use Rattle.filters.specs.Orders.{Kth}
 use Rattle.filters.specs.Morphology.{On, moved, difference, differences, SoftMorphology}
 use Rattle.filters.proofs.Cuts.{amounts}
 use Rattle.filters.proofs.Masses.{mass, mass_le, mass_split}
 use Rattle.filters.proofs.Windows.{under, weighs, below_bag, total_is, picked_one}
-use Rattle.filters.proofs.Numbers.{held_keeps, le_from, le_from_not}
+use Rattle.filters.proofs.Numbers.{nearest_keeps, le_from, le_from_not}
 use Rattle.filters.proofs.Choices.{passing, count_given, smallest, largest, kth_given}
 
 gate : (b s t : Bool) → (s ≡ true → t ≡ true) → (b && s) ≡ true → (b && t) ≡ true
@@ -36,11 +36,11 @@ module _ {T R : Type 0} (K : Kind T R) (value : T → ℤ) (size : Size) (s : St
   passes = passing K size s f x y (difference K size s f x y value)
 
 module _ {T R : Type 0} (K : Kind T R) (low high : ℤ) (value : T → ℤ) (whole : WholeNumbers K low high value) where
-  shifted_value : (o : Operation) (t : T) (a : ℤ) → nat_abs a ≤ K.span → value (shifted K o t a) ≡ held low high (moved o (value t) a)
+  shifted_value : (o : Operation) (t : T) (a : ℤ) → nat_abs a ≤ K.span → value (shifted K o t a) ≡ nearest low high (moved o (value t) a)
   shifted_value Erosion t a h = whole.lowering t a h
   shifted_value Dilation t a h =
       let e : value t -ℤ neg_ℤ a ≡ value t +ℤ a = omega (arith, ints) in
-      whole.lowering t (neg_ℤ a) (turned a h) ∙ ap (held low high) e
+      whole.lowering t (neg_ℤ a) (turned a h) ∙ ap (nearest low high) e
     where
       turned : (a : ℤ) → nat_abs a ≤ K.span → nat_abs (neg_ℤ a) ≤ K.span
       turned (pos zero) h = h
@@ -49,7 +49,7 @@ module _ {T R : Type 0} (K : Kind T R) (low high : ℤ) (value : T → ℤ) (who
 
   -- codes have the order of the numbers before they are held
   shifted_order : (o : Operation) (t u : T) (a b : ℤ) → nat_abs a ≤ K.span → nat_abs b ≤ K.span → moved o (value t) a ≤ℤ moved o (value u) b → K.code (shifted K o t a) ≤ K.code (shifted K o u b)
-  shifted_order o t u a b ha hb h = (whole.order (shifted K o t a) (shifted K o u b)).1 (rw (shifted_value o t a ha, shifted_value o u b hb) (held_keeps low high (moved o (value t) a) (moved o (value u) b) h))
+  shifted_order o t u a b ha hb h = (whole.order (shifted K o t a) (shifted K o u b)).1 (rw (shifted_value o t a ha, shifted_value o u b hb) (nearest_keeps low high (moved o (value t) a) (moved o (value u) b) h))
 
   module _ (size : Size) (s : Stage) (f : Picture T) (x y : ℕ) (q : Place) (near : nat_abs q.amount ≤ K.span) where
     -- codes beside that of the place q, by the numbers beside its number
@@ -92,18 +92,18 @@ module _ {T R : Type 0} (K : Kind T R) (low high : ℤ) (value : T → ℤ) (who
     enough_weight = omega (arith, total_least K law size s f x y on.0 on.1, total_is K size s f x y law)
 
     -- a place whose code is at the rank gives the result
-    result_at : (q : Place) → nat_abs q.amount ≤ K.span → (z : ℤ) → difference K size s f x y value q ≡ z → below (bag K size s f x y) (code_at K size s f x y q) < rank K size s f x y → rank K size s f x y ≤ below (bag K size s f x y) (suc (code_at K size s f x y q)) → value (cleaned K size s f x y) ≡ held low high z
+    result_at : (q : Place) → nat_abs q.amount ≤ K.span → (z : ℤ) → difference K size s f x y value q ≡ z → below (bag K size s f x y) (code_at K size s f x y q) < rank K size s f x y → rank K size s f x y ≤ below (bag K size s f x y) (suc (code_at K size s f x y q)) → value (cleaned K size s f x y) ≡ nearest low high z
     result_at q near z e few enough =
         ap value (picked_one K size s f x y law on (shifted K s.operation (read K size s f x y q) q.amount) (ranked_from (bag K size s f x y) (rank K size s f x y) (code_at K size s f x y q) few enough))
-        ∙ (shifted_value s.operation (read K size s f x y q) q.amount near ∙ ap (held low high) e)
+        ∙ (shifted_value s.operation (read K size s f x y q) q.amount near ∙ ap (nearest low high) e)
 
-    erosion_at : s.operation ≡ Erosion → (q : Place) → nat_abs q.amount ≤ K.span → (z : ℤ) → difference K size s f x y value q ≡ z → mass (weighs K size s f x y) (passes K value size s f x y (λ i. lt_z i z)) (placed s.element) < s.element.order → s.element.order ≤ mass (weighs K size s f x y) (passes K value size s f x y (λ i. le_z i z)) (placed s.element) → value (cleaned K size s f x y) ≡ held low high z
+    erosion_at : s.operation ≡ Erosion → (q : Place) → nat_abs q.amount ≤ K.span → (z : ℤ) → difference K size s f x y value q ≡ z → mass (weighs K size s f x y) (passes K value size s f x y (λ i. lt_z i z)) (placed s.element) < s.element.order → s.element.order ≤ mass (weighs K size s f x y) (passes K value size s f x y (λ i. le_z i z)) (placed s.element) → value (cleaned K size s f x y) ≡ nearest low high z
     erosion_at is q near z e few enough =
         let r : rank K size s f x y ≡ s.element.order = ap (λ o. rank_of o s.element.order (total K size s f x y)) is in
         let m = eroded size s f x y q near s.element.order (placed s.element) fit (subst (λ w. mass (weighs K size s f x y) (passes K value size s f x y (λ i. lt_z i w)) (placed s.element) < s.element.order) (sym e) few) (subst (λ w. s.element.order ≤ mass (weighs K size s f x y) (passes K value size s f x y (λ i. le_z i w)) (placed s.element)) (sym e) enough) in
         result_at q near z e (omega (arith, r, m.0, below_bag K size s f x y (code_at K size s f x y q))) (omega (arith, r, m.1, below_bag K size s f x y (suc (code_at K size s f x y q))))
 
-    dilation_at : s.operation ≡ Dilation → (q : Place) → nat_abs q.amount ≤ K.span → (z : ℤ) → difference K size s f x y value q ≡ z → mass (weighs K size s f x y) (passes K value size s f x y (λ i. lt_z z i)) (placed s.element) < s.element.order → s.element.order ≤ mass (weighs K size s f x y) (passes K value size s f x y (λ i. le_z z i)) (placed s.element) → value (cleaned K size s f x y) ≡ held low high z
+    dilation_at : s.operation ≡ Dilation → (q : Place) → nat_abs q.amount ≤ K.span → (z : ℤ) → difference K size s f x y value q ≡ z → mass (weighs K size s f x y) (passes K value size s f x y (λ i. lt_z z i)) (placed s.element) < s.element.order → s.element.order ≤ mass (weighs K size s f x y) (passes K value size s f x y (λ i. le_z z i)) (placed s.element) → value (cleaned K size s f x y) ≡ nearest low high z
     dilation_at is q near z e few enough =
         let r : rank K size s f x y ≡ suc (total K size s f x y - s.element.order) = ap (λ o. rank_of o s.element.order (total K size s f x y)) is in
         let m = dilated size s f x y q near s.element.order (placed s.element) fit enough_weight (subst (λ w. mass (weighs K size s f x y) (passes K value size s f x y (λ i. lt_z w i)) (placed s.element) < s.element.order) (sym e) few) (subst (λ w. s.element.order ≤ mass (weighs K size s f x y) (passes K value size s f x y (λ i. le_z w i)) (placed s.element)) (sym e) enough) in
@@ -112,7 +112,7 @@ module _ {T R : Type 0} (K : Kind T R) (low high : ℤ) (value : T → ℤ) (who
     near_of : (q : Place) → Has (placed s.element) q → nat_abs q.amount ≤ K.span
     near_of q has = all-has (λ p. nat_abs p.amount ≤ K.span) (placed s.element) q fit has
 
-    eroded_law : s.operation ≡ Erosion → (z : ℤ) × Kth Erosion s.element.order (differences K size s f x y value) z × (value (cleaned K size s f x y) ≡ held low high z)
+    eroded_law : s.operation ≡ Erosion → (z : ℤ) × Kth Erosion s.element.order (differences K size s f x y value) z × (value (cleaned K size s f x y) ≡ nearest low high z)
     eroded_law is =
         let number = difference K size s f x y value in
         let at = smallest K size s f x y number s.element.order (placed s.element) (order_positive s.element) enough_weight in
@@ -120,7 +120,7 @@ module _ {T R : Type 0} (K : Kind T R) (low high : ℤ) (value : T → ℤ) (who
         let found = kth_given K size s f x y number Erosion s.element.order (placed s.element) at.0 kth in
         (at.0, kth, erosion_at is found.0 (near_of found.0 found.1) at.0 found.2 at.1 at.2)
 
-    dilated_law : s.operation ≡ Dilation → (z : ℤ) × Kth Dilation s.element.order (differences K size s f x y value) z × (value (cleaned K size s f x y) ≡ held low high z)
+    dilated_law : s.operation ≡ Dilation → (z : ℤ) × Kth Dilation s.element.order (differences K size s f x y value) z × (value (cleaned K size s f x y) ≡ nearest low high z)
     dilated_law is =
         let number = difference K size s f x y value in
         let at = largest K size s f x y number s.element.order (placed s.element) (order_positive s.element) enough_weight in
@@ -128,7 +128,7 @@ module _ {T R : Type 0} (K : Kind T R) (low high : ℤ) (value : T → ℤ) (who
         let found = kth_given K size s f x y number Dilation s.element.order (placed s.element) at.0 kth in
         (at.0, kth, dilation_at is found.0 (near_of found.0 found.1) at.0 found.2 at.1 at.2)
 
-    pub stage_law : (o : Operation) → s.operation ≡ o → (z : ℤ) × Kth o s.element.order (differences K size s f x y value) z × (value (cleaned K size s f x y) ≡ held low high z)
+    pub stage_law : (o : Operation) → s.operation ≡ o → (z : ℤ) × Kth o s.element.order (differences K size s f x y value) z × (value (cleaned K size s f x y) ≡ nearest low high z)
     stage_law Erosion is = eroded_law is
     stage_law Dilation is = dilated_law is
 

@@ -13,7 +13,7 @@ use Rattle.recipes.specs.declared.recipe.Stage.{Stage}
 use Rattle.recipes.specs.Placed.{placed}
 use Rattle.recipes.specs.Recipes.{eroding, dilating, stages_by, stages_of}
 use Rattle.stages.specs.Stages.{Picture, read, cleaned, made}
-use Rattle.tones.specs.Kind.{Kind, Laws, held}
+use Rattle.tones.specs.Kind.{Kind, Laws, nearest}
 use Rattle.tones.specs.Whole.{WholeNumbers}
 use Rattle.filters.specs.Orders.{Kth}
 use Rattle.filters.specs.Morphology.{On, moved, number_read, difference, numbers, differences}
@@ -54,8 +54,8 @@ moved_none : (o : Operation) (v a : ℤ) → nat_abs a ≤ 0 → moved o v a ≡
 moved_none Erosion v a h = let e = nought a h in omega (arith, ints)
 moved_none Dilation v a h = let e = nought a h in omega (arith, ints)
 
-held_within : (low high z : ℤ) → low ≤ℤ z → z ≤ℤ high → held low high z ≡ z
-held_within low high z above below = omega (arith, ints, clamps)
+nearest_within : (low high z : ℤ) → low ≤ℤ z → z ≤ℤ high → nearest low high z ≡ z
+nearest_within low high z above below = omega (arith, ints, clamps)
 
 module _ {T R : Type 0} (K : Kind T R) (law : Laws K) (low high : ℤ) (value : T → ℤ) (whole : WholeNumbers K low high value) (size : Size) (s : Stage) (f : Picture T) (x y : ℕ) (flat : AllByRecursion (λ p. nat_abs p.amount ≤ 0) (placed s.element)) where
   -- there are no differences
@@ -65,11 +65,11 @@ module _ {T R : Type 0} (K : Kind T R) (law : Laws K) (low high : ℤ) (value : 
       (All-weaker (λ p. nat_abs p.amount ≤ 0) _ (λ p h. moved_none s.operation (number_read K size s f x y value p) p.amount h) (placed s.element) flat)
 
   -- one that is chosen was read, so holding does nothing
-  unheld : (o : Operation) (k : ℕ) (z : ℤ) → Kth o k (numbers K size s f x y value) z → held low high z ≡ z
+  unheld : (o : Operation) (k : ℕ) (z : ℤ) → Kth o k (numbers K size s f x y value) z → nearest low high z ≡ z
   unheld o k z kth =
       let found = kth_given K size s f x y (number_read K size s f x y value) o k (placed s.element) z kth in
       let limits = whole.limits (read K size s f x y found.0) in
-      held_within low high z (subst (λ n. low ≤ℤ n) found.2 limits.0) (subst (λ n. n ≤ℤ high) found.2 limits.1)
+      nearest_within low high z (subst (λ n. low ≤ℤ n) found.2 limits.0) (subst (λ n. n ≤ℤ high) found.2 limits.1)
 
   flat_law : On size x y → (o : Operation) → s.operation ≡ o → Kth o s.element.order (numbers K size s f x y value) (value (cleaned K size s f x y))
   flat_law on o is =

@@ -10,7 +10,7 @@ use Rattle.recipes.specs.Placed.{placed}
 use Rattle.selectors.specs.Bag.{below, Ranked}
 use Rattle.selectors.proofs.Ranks.{ranked_one}
 use Rattle.selectors.proofs.Sums.{below_none}
-use Rattle.stages.specs.Stages.{Picture, on_card, weight, inside, code_at, adds, window, bag, total, rank, ranked, cleaned}
+use Rattle.stages.specs.Stages.{Picture, on_card, weight, inside, code_at, adds, window, bag, total, rank, ranked_code, cleaned}
 use Rattle.stages.proofs.Cleaning.{rank_some, rank_most}
 use Rattle.stages.proofs.Ranks.{ranked_is}
 use Rattle.stages.proofs.Sums.{below_sum}
@@ -69,7 +69,7 @@ module _ {T R : Type 0} (K : Kind T R) (size : Size) (s : Stage) (f : Picture T)
       unfolding cleaned
       picked =
           let h = ranked_is (bag K size s f x y) (rank K size s f x y) K.count (rank_some K law size s f x y on.0 on.1) (rank_most K law size s f x y on.0 on.1) in
-          rw (law.there (ranked (bag K size s f x y) (rank K size s f x y) K.count) h.1) h.0
+          rw (law.there (ranked_code (bag K size s f x y) (rank K size s f x y) K.count) h.1) h.0
 
       -- a tone whose code is at that rank is the tone
       pub picked_one : (t : T) → Ranked (bag K size s f x y) (rank K size s f x y) (K.code t) → cleaned K size s f x y ≡ t

@@ -1,6 +1,6 @@
 -- The laws of soft morphology that speak of a stage or of any list of stages, for every kind of
 -- tones. Assumes nothing.
-use Rattle.std.specs.Prelude.{◌≡◌, ℕ, suc, ◌+◌, ◌-◌, ◌<◌, ◌≤◌, true, cond, ◌↔◌, List, [], replicate, ℤ, ◌+ℤ◌, ◌-ℤ◌, nat_le}
+use Rattle.std.specs.Prelude.{◌≡◌, ℕ, suc, ◌-◌, ◌<◌, ◌≤◌, true, cond, ◌↔◌, List, [], replicate, ℤ, ◌+ℤ◌, ◌-ℤ◌, nat_le}
 use Rattle.std.specs.List.{ContainsAt as Has, flat_map}
 use Rattle.planes.specs.declared.size.Size.{Size}
 use Rattle.recipes.specs.declared.element.Element.{Element}
@@ -8,14 +8,14 @@ use Rattle.recipes.specs.declared.places.Place.{Place}
 use Rattle.recipes.specs.declared.recipe.Operation.{Operation}
 use Rattle.recipes.specs.declared.recipe.Operation.TheVariants.{Erosion, Dilation}
 use Rattle.recipes.specs.declared.recipe.Stage.{Stage}
+use Rattle.recipes.specs.Extents.{Within, across, down}
 use Rattle.recipes.specs.Placed.{placed}
-use Rattle.recipes.specs.Reaches.{reach}
 use Rattle.recipes.specs.Recipes.{places_within, amounts_within, eroding, dilating}
 use Rattle.selectors.specs.Bag.{Ranked}
 use Rattle.stages.specs.Stages.{Picture, weight, inside, read, bag, total, rank, cleaned, made}
-use Rattle.tones.specs.declared.kinds.Mark.{Mark}
-use Rattle.tones.specs.declared.kinds.Mark.TheVariants.{Yes}
-use Rattle.tones.specs.Kind.{Kind, held}
+use Rattle.tones.specs.declared.marks.Mark.{Mark}
+use Rattle.tones.specs.declared.marks.Mark.TheVariants.{Yes}
+use Rattle.tones.specs.Kind.{Kind, nearest}
 use Rattle.tones.specs.Marks.{marks, mark, mark_code}
 use Rattle.tones.specs.Whole.{WholeNumbers}
 use Rattle.filters.specs.Orders.{Kth}
@@ -23,17 +23,6 @@ use Rattle.filters.specs.Orders.{Kth}
 -- the pixel in column x and row y lies on the card
 abbrev pub On : Size → ℕ → ℕ → Type 0
 On size x y = (x < size.width) × (y < size.height)
-
--- u is at most r away from x
-abbrev pub Near : ℕ → ℕ → ℕ → Type 0
-Near r x u = (u ≤ x + r) × (x ≤ u + r)
-
--- how far an element reads sideways, and how far up and down: the greatest |dx|, the greatest |dy|
-abbrev pub sideways : Element → ℕ
-sideways e = reach (λ p. p.dx) (placed e)
-
-abbrev pub upright : Element → ℕ
-upright e = reach (λ p. p.dy) (placed e)
 
 -- an erosion's difference of a tone's number and the amount, a dilation's sum, as whole numbers
 -- and not held
@@ -81,7 +70,11 @@ module _ {T R : Type 0} (K : Kind T R) where
   -- two pictures are the same within the element's greatest |dx| and |dy| of a pixel, on the card
   abbrev pub SameNear : Size → Element → ℕ → ℕ → Picture T → Picture T → Type 0
   SameNear size e x y f g =
-      (u v : ℕ) → On size u v → Near (sideways e) x u → Near (upright e) y v → f u v ≡ g u v
+      (u v : ℕ)
+      → On size u v
+      → Within (across e) x u
+      → Within (down e) y v
+      → f u v ≡ g u v
 
   -- the tone at a pixel on the card is the one that a selector selects at the stage's rank
   -- from the window's bag
@@ -103,7 +96,7 @@ module _ {T R : Type 0} (K : Kind T R) where
       → places_within K.span (placed s.element) ≡ true
       → (z : ℤ)
       × Kth s.operation s.element.order (differences K size s f x y value) z
-      × (value (cleaned K size s f x y) ≡ held low high z)
+      × (value (cleaned K size s f x y) ≡ nearest low high z)
 
   -- where no amount lowers or raises, the tone is one of those that the window reads
   abbrev pub KeepsVector : Type 0

@@ -4,7 +4,8 @@ use Rattle.planes.specs.declared.size.Size.{Size}
 use Rattle.planes.specs.Sizes.{start}
 use Rattle.recipes.specs.declared.recipe.Stage.{Stage}
 use Rattle.stages.specs.Planes.{picture, line, overwritten}
-use Rattle.stages.specs.Stages.{Picture, bag, cleaned}
+use Rattle.stages.specs.Rows.{picture_made}
+use Rattle.stages.specs.Stages.{Picture, bag}
 use Rattle.stages.specs.declared.pass.Pass.{Pass}
 use Rattle.tones.specs.Kind.{Kind}
 
@@ -14,13 +15,10 @@ module _ {T R : Type 0} (K : Kind T R) (size : Size) where
   lines f zero = []
   lines f (suc n) = lines f n ++ line K f n 0 size.width
 
-  -- what a stage makes of the picture whose plane begins at `from`
-  abbrev pub staged : Stage → ℕ → List R → Picture T
-  staged s from m x y = cleaned K size s (picture K size from m) x y
-
-  -- the memory with the top n rows of that laid into the plane that begins at `into`
+  -- the memory with the top n rows of what a stage makes of the picture whose plane begins at
+  -- `from` laid into the plane that begins at `into`
   abbrev pub rows_made : Stage → ℕ → ℕ → List R → ℕ → List R
-  rows_made s from into m n = overwritten m into (lines (staged s from m) n)
+  rows_made s from into m n = overwritten m into (lines (picture_made K size s from m) n)
 
   -- the memory whose plane j + 1 is what the stage makes of plane j; every other cell is as it was
   abbrev pub restaged : Stage → ℕ → List R → List R

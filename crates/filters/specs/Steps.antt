@@ -9,7 +9,7 @@ use Rattle.recipes.specs.declared.element.Element.{Element}
 use Rattle.recipes.specs.Placed.{placed}
 use Rattle.recipes.specs.Recipes.{places_within, eroding, dilating, stages_by, stages_of}
 use Rattle.stages.specs.Stages.{Picture, made}
-use Rattle.tones.specs.Kind.{Kind, held}
+use Rattle.tones.specs.Kind.{Kind, nearest}
 use Rattle.tones.specs.Whole.{WholeNumbers}
 use Rattle.filters.specs.Orders.{KthSmallest, KthLargest}
 use Rattle.filters.specs.Morphology.{On, numbers, differences}
@@ -54,7 +54,7 @@ module _ {T R : Type 0} (K : Kind T R) (value : T → ℤ) (size : Size) (e : El
         (x y : ℕ) → On size x y
         → (z : ℤ)
         × KthSmallest e.order (differences K size (eroding e) f x y value) z
-        × (value (g x y) ≡ held low high z)
+        × (value (g x y) ≡ nearest low high z)
 
     -- the dilation: at every pixel the k-th largest of the sums f(p − y) + a(y), held to low..high
     abbrev pub IsDilation : Picture T → Picture T → Type 0
@@ -62,7 +62,7 @@ module _ {T R : Type 0} (K : Kind T R) (value : T → ℤ) (size : Size) (e : El
         (x y : ℕ) → On size x y
         → (z : ℤ)
         × KthLargest e.order (differences K size (dilating e) f x y value) z
-        × (value (g x y) ≡ held low high z)
+        × (value (g x y) ≡ nearest low high z)
 
     -- what a step makes by its letter
     abbrev pub Makes : Letter → Picture T → Picture T → Type 0
@@ -92,8 +92,8 @@ module _ {T R : Type 0} (K : Kind T R) where
       → places_within 0 (placed e) ≡ true
       → MakesFlat K value size e l f (made K size (stages_by l e) f)
 
-  -- a recipe makes what its steps make in turn, the first of the picture, each later one of what the
-  -- one before made
+  -- a recipe makes what its steps make in turn, the first of the picture, each later one of what
+  -- the one before made
   abbrev pub StepsInTurn : Type 0
   StepsInTurn =
       (size : Size) (s : Step) (ss : List Step) (f : Picture T)

@@ -5,3 +5,5 @@
 #[cfg(test)]
 mod tests;
 pub mod whole;
+
+pub use whole::stage_plane;

@@ -12,7 +12,7 @@ use stages::pass::Pass;
 use stages::window::Window;
 use tones::Tone;
 
-// The selector's two facts stand in each contract, as in `stages::pixels`; so does the room, since
+// The selector's two facts stand in each contract, as in `stages::window`; so does the room, since
 // the memory is lent anew to each call.
 
 /// Makes plane j + 1 of a memory from plane j, row by row from the top, each row from the left. The
@@ -49,7 +49,8 @@ fn stage_rows<T: Tone, S: Selector>(selector: &mut S, pass: &Pass, memory: &mut 
     requires codes { T.kind.count ≤ S.range selector.old }
     requires room { pass.now.into + area pass.now.frame.size ≤ length memory.old }
     ensures memory { memory.new ≡ pass_made T.kind pass.now memory.old }
-    ensures weights { (c : ℕ) → S.weight selector.new c ≡ pass_weights T.kind pass.now memory.old c }
+    ensures weights { (c : ℕ) → S.weight selector.new c
+        ≡ pass_weights T.kind pass.now memory.old c }
     ensures range_kept { S.range selector.new ≡ S.range selector.old }
     ensures in_order { S.ordered selector.new }
 {

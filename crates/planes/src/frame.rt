@@ -5,6 +5,12 @@ ghost use Rattle.planes.specs.Sizes.{Limits, area, cell, start};
 
 use crate::size::Size;
 
+/// A card has at most so many columns.
+pub const MOST_WIDTH: usize = 1024;
+
+/// A card has at most so many rows.
+pub const MOST_HEIGHT: usize = 256;
+
 /// A size that a card may have: from 1 × 1 to 1,024 × 256 pixels.
 #[derive(Clone, Copy, PartialEq, Eq, Debug)]
 pub struct Frame {
@@ -25,8 +31,10 @@ impl Frame {
     pub fn checked(size: Size) -> Option<Frame>
         ensures { MatchOption result (Limits size → ⊥) (λ f. f.size ≡ size) }
     {
-        // Not by `then`: a closure knows nothing of the test, and a frame is proved where it is made.
-        if (1..=1024).contains(&size.width) && (1..=256).contains(&size.height) {
+        // Not by `then`: a closure knows nothing of the test.
+        let wide = (1..=MOST_WIDTH).contains(&size.width);
+        let high = (1..=MOST_HEIGHT).contains(&size.height);
+        if wide && high {
             Some(Frame { size })
         } else {
             None

@@ -4,3 +4,6 @@
 
 pub mod frame;
 pub mod size;
+
+pub use frame::{Frame, MOST_HEIGHT, MOST_WIDTH};
+pub use size::Size;

@@ -5,6 +5,8 @@ use Rattle.selectors.specs.contracts.histogram.HistogramSelector.TheImpl as hist
 use Rattle.selectors.specs.contracts.ladder.LadderSelector.TheImpl as ladder
 use Rattle.selectors.specs.declared.calls.Kind.{Kind}
 use Rattle.selectors.specs.declared.calls.Kind.TheVariants.{Gate, Histogram, Ladder}
+use Rattle.selectors.specs.declared.histogram.TheConstants.{RANGE}
+use Rattle.selectors.specs.declared.limits.TheConstants.{WIDE_RANGE}
 use Rattle.rank.specs.declared.chosen.Chosen.{Chosen}
 use Rattle.rank.specs.declared.chosen.Chosen.TheVariants.{OfGate, OfHistogram, OfLadder}
 
@@ -22,6 +24,6 @@ chosen_range (OfLadder s) = (ladder.ghosts).range s
 
 -- the range of each kind
 abbrev pub kind_range : Kind → ℕ
-kind_range Gate = 33554432
-kind_range Histogram = 512
-kind_range Ladder = 33554432
+kind_range Gate = WIDE_RANGE
+kind_range Histogram = RANGE
+kind_range Ladder = WIDE_RANGE

@@ -8,7 +8,9 @@ use Rattle.rank.specs.declared.command.Command.TheVariants.{Choose, Ask}
 
 -- a word writes the number n, below 2 ^ 32, in digits
 abbrev pub Writes : List ℕ → ℕ → Type 0
-Writes w n = IsNumeral 10 (without_leading_plus w) × (digits_value 10 (without_leading_plus w) < 2 ^ 32) × (n ≡ digits_value 10 (without_leading_plus w))
+Writes w n =
+    let digits = without_leading_plus w in
+    IsNumeral 10 digits × (digits_value 10 digits < 2 ^ 32) × (n ≡ digits_value 10 digits)
 
 -- the word is there and writes n
 abbrev pub Gives : Option (List ℕ) → ℕ → Type 0

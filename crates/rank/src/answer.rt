@@ -2,7 +2,7 @@
 ghost use Rattle.rank.specs.Shown.{answer_line};
 ghost use Rattle.std.specs.Prelude.{Some};
 
-use selectors::calls::{CallRefusal, Reply};
+use selectors::{CallRefusal, Reply};
 use std::fmt;
 
 /// What a call answers: `ok`, the number, or `refused` and the refusal's number.

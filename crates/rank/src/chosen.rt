@@ -3,8 +3,7 @@ ghost use Rattle.std.specs.Prelude.{◌≡◌, ℕ};
 ghost use Rattle.rank.specs.Choice.{chosen_range, chosen_weight, kind_range};
 ghost use Rattle.selectors.specs.Played.{Answered, after};
 
-use selectors::calls::{Call, CallRefusal, Kind, Reply, play};
-use selectors::{Gate, Histogram, Ladder};
+use selectors::{Call, CallRefusal, Gate, Histogram, Kind, Ladder, Reply, play};
 
 /// A selector of one of the three kinds.
 #[derive(Clone, Copy)]
@@ -30,7 +29,8 @@ impl Chosen {
     /// Makes the call on it.
     pub fn play(&mut self, call: Call) -> Result<Reply, CallRefusal>
         ensures answer { Answered (chosen_weight self.old) (chosen_range self.old) call result }
-        ensures weights { (c : ℕ) → chosen_weight self.new c ≡ after (chosen_weight self.old) (chosen_range self.old) call c }
+        ensures weights { (c : ℕ) → chosen_weight self.new c
+            ≡ after (chosen_weight self.old) (chosen_range self.old) call c }
         ensures range_kept { chosen_range self.new ≡ chosen_range self.old }
     {
         match self {

@@ -1,5 +1,5 @@
 //! What a line of a script asks for.
-use selectors::calls::{Call, Kind};
+use selectors::{Call, Kind};
 
 /// One line of a script.
 #[derive(Clone, Copy)]

@@ -4,7 +4,7 @@ ghost use Rattle.std.specs.Option.{option_map};
 ghost use Rattle.rank.specs.Words.{Reads, Writes};
 
 use crate::command::Command;
-use selectors::calls::Call;
+use selectors::Call;
 
 /// The command of a line of at most three words.
 pub fn command(line: &str) -> Option<Command> {
@@ -20,7 +20,9 @@ pub fn command(line: &str) -> Option<Command> {
 
 /// The command that these words say.
 pub fn said(name: &str, first: Option<&str>, second: Option<&str>) -> Option<Command>
-    ensures { Reads name.now (option_map (λ x. x.now) first.entry) (option_map (λ x. x.now) second.entry) result }
+    ensures { let a = option_map (λ word. word.now) first.entry in
+        let b = option_map (λ word. word.now) second.entry in
+        Reads name.now a b result }
 {
     match (name, first, second) {
         ("selector", Some(kind), None) => Some(Command::Choose(kind.parse().ok()?)),

@@ -1,21 +1,17 @@
 -- What keeps an element lawful.
-use Rattle.std.proofs.Common.{◌≡◌, ℕ, zero, suc, ◌<◌, Bool, true, false, cond, not, ◌&&◌, leb, List, [], ◌∷◌, ◌++◌, map, length, get_or, set, ℤ, pos, nat_abs, sym, refl, ap, ◌∙◌, arith}
+use Rattle.std.proofs.Common.{◌≡◌, ℕ, zero, suc, ◌<◌, Bool, true, false, cond, not, ◌&&◌, leb, List, [], ◌∷◌, ◌++◌, map, length, get_or, set, ℤ, nat_abs, sym, refl, ap, ◌∙◌, arith}
 use Rattle.std.proofs.lemmas.List.{length_push, length-map}
 use Rattle.std.proofs.lemmas.List.Sums.{sum_by_push}
 use Rattle.std.proofs.lemmas.Bool.Decides.{nat_tests}
 use Rattle.std.proofs.lemmas.Bool.{and_parts, and_from, or_parts, or_left, not-true, not_from_false}
 use Rattle.recipes.specs.declared.places.Place.{Place}
 use Rattle.std.proofs.lemmas.List.Folds.{list_any_at}
-use Rattle.recipes.specs.Places.{same, stands_at, taken, in_limits, limited, core, soft, amended}
+use Rattle.recipes.specs.Places.{same, stands_at, taken, in_limits, limited, soft, amended}
 use Rattle.std.specs.List.{list_any, list_all}
-use Rattle.recipes.specs.Lawful.{apart, lawful, lawful_order}
+use Rattle.recipes.specs.Lawful.{apart, central, lawful, lawful_order}
 use Rattle.recipes.proofs.Passing.{any_push, all_push, any_map, all_map, countBy_map}
 use Rattle.recipes.proofs.Spots.{same_from, stands_flip}
 use Rattle.recipes.proofs.Room.{room}
-
--- a place at the origin, in the core
-abbrev central : Place → Bool
-central p = stands_at (pos 0) (pos 0) p && core p
 
 -- the four parts of being lawful
 pub record Sound (ps : List Place) (k : ℕ) : Type 0 where

@@ -4,13 +4,13 @@ use Rattle.std.proofs.lemmas.List.Sums.{sum_by-cons}
 use Rattle.std.proofs.lemmas.Bool.Decides.{nat_tests}
 use Rattle.std.proofs.lemmas.Bool.{and_parts, or_parts, leb-true, lt-ltb, eqb-true, not-true, both_ways}
 use Rattle.recipes.specs.declared.places.Place.{Place}
-use Rattle.recipes.specs.Places.{stands_at, taken, limited, Limits}
+use Rattle.recipes.specs.Places.{stands_at, taken, limited, IsLimited}
 use Rattle.std.specs.List.{list_all}
 use Rattle.recipes.specs.Lawful.{apart}
 use Rattle.recipes.proofs.Spots.{same_itself}
 
 -- what the limits say
-pub limits : (p : Place) → limited p ≡ true → Limits p
+pub limits : (p : Place) → limited p ≡ true → IsLimited p
 limits p e =
     let a = and_parts (leb (nat_abs p.dx) 3 && leb (nat_abs p.dy) 3) (leb (nat_abs p.amount) 1024) e in
     let b = and_parts (leb (nat_abs p.dx) 3) (leb (nat_abs p.dy) 3) a.0 in
@@ -35,12 +35,12 @@ shifted_one (negsuc a) (negsuc b) h k e = ap negsuc (omega arith)
 cell : Place → ℕ
 cell p = 7 * shifted p.dy + shifted p.dx
 
-cell_below : (p : Place) → Limits p → cell p < 49
+cell_below : (p : Place) → IsLimited p → cell p < 49
 unfolding cell
 cell_below p l = omega (arith, shifted_below p.dx l.across, shifted_below p.dy l.down)
 
 -- one cell, one spot
-cell_one : (p q : Place) → Limits p → Limits q → cell q ≡ cell p → stands_at p.dx p.dy q ≡ true
+cell_one : (p q : Place) → IsLimited p → IsLimited q → cell q ≡ cell p → stands_at p.dx p.dy q ≡ true
 unfolding cell
 cell_one p q l m e =
     let a = shifted_below p.dx l.across in
@@ -68,7 +68,7 @@ in_cells_suc n (p ∷ ps) =
     omega (arith, here n (cell p), in_cells_suc n ps)
 
 -- the cell of a place that stands apart from all others is theirs no more
-in_cell_none : (p : Place) (ps : List Place) → Limits p → list_all limited ps ≡ true → taken p.dx p.dy ps ≡ false → in_cell (cell p) ps ≡ 0
+in_cell_none : (p : Place) (ps : List Place) → IsLimited p → list_all limited ps ≡ true → taken p.dx p.dy ps ≡ false → in_cell (cell p) ps ≡ 0
 in_cell_none p [] l e t = refl
 in_cell_none p (q ∷ ps) l e t =
     let a = and_parts (limited q) (list_all limited ps) e in

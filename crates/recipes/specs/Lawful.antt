@@ -9,10 +9,18 @@ unfoldable pub apart : List Place → Bool
 apart [] = true
 apart (p ∷ ps) = not (taken p.dx p.dy ps) && apart ps
 
--- an order index is 1, or it is above 1, twice it is at most the number of places, and it is at most the number of soft places
+-- an order index is 1, or it is above 1, twice it is at most the number of places, and it is at most
+-- the number of soft places
 abbrev pub lawful_order : List Place → ℕ → Bool
-lawful_order ps k = k == 1 || (nat_lt 1 k && nat_le (2 * k) (length ps) && nat_le k (count_by soft ps))
+lawful_order ps k =
+    k == 1 || (nat_lt 1 k && nat_le (2 * k) (length ps) && nat_le k (count_by soft ps))
 
--- the origin is in the core, each place is in its limits, none stands twice, and the order is lawful
+-- a place at the origin, in the core
+abbrev pub central : Place → Bool
+central p = stands_at (pos 0) (pos 0) p && core p
+
+-- the origin is in the core, each place is in its limits, none stands twice, and the order is
+-- lawful
 unfoldable pub lawful : List Place → ℕ → Bool
-lawful ps k = list_any (λ p. stands_at (pos 0) (pos 0) p && core p) ps && list_all limited ps && apart ps && lawful_order ps k
+lawful ps k =
+    list_any central ps && list_all limited ps && apart ps && lawful_order ps k

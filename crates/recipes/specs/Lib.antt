@@ -1,5 +1,6 @@
 pub mod Drafts
 pub mod Edits
+pub mod Extents
 pub mod Lawful
 pub mod Parts
 pub mod Placed

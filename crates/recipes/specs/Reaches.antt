@@ -9,6 +9,6 @@ reach d [] = 0
 reach d (p ∷ ps) = max (unsigned_abs (d p)) (reach d ps)
 
 -- no place's offset is greater in size than n, and one is as great
-pub record Greatest (d : Place → ℤ) (ps : List Place) (n : ℕ) : Type 0 where
+pub record IsGreatest (d : Place → ℤ) (ps : List Place) (n : ℕ) : Type 0 where
   pub bound : AllByRecursion (λ p. unsigned_abs (d p) ≤ n) ps
   pub met : (p : Place) × Has ps p × (unsigned_abs (d p) ≡ n)

@@ -21,22 +21,23 @@ use Rattle.recipes.specs.Refusals.{draft_number}
 abbrev pub staged : Recipe → List Stage
 staged r = take r.count r.stages
 
+-- an operation with an element
+abbrev pub stage_with : Element → Operation → Stage
+stage_with e o = record { operation = o; element = e }
+
 abbrev pub eroding : Element → Stage
-eroding e = record { operation = Erosion; element = e }
+eroding e = stage_with e Erosion
 
 abbrev pub dilating : Element → Stage
-dilating e = record { operation = Dilation; element = e }
+dilating e = stage_with e Dilation
 
--- E is one erosion, D one dilation, O an erosion and then a dilation, C a dilation and then an erosion
+-- E is one erosion, D one dilation, O an erosion and then a dilation, C a dilation and then an
+-- erosion
 abbrev pub operations_by : Letter → List Operation
 operations_by letter.Erosion = Erosion ∷ []
 operations_by letter.Dilation = Dilation ∷ []
 operations_by letter.Opening = Erosion ∷ Dilation ∷ []
 operations_by letter.Closing = Dilation ∷ Erosion ∷ []
-
--- an operation with an element
-abbrev pub stage_with : Element → Operation → Stage
-stage_with e o = record { operation = o; element = e }
 
 -- a letter's operations, with the same element
 abbrev pub stages_by : Letter → Element → List Stage

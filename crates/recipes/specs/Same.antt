@@ -4,7 +4,8 @@ use Rattle.recipes.specs.declared.element.Element.{Element}
 use Rattle.recipes.specs.declared.recipe.Stage.{Stage}
 use Rattle.recipes.specs.Placed.{placed}
 
--- the same set of places with their parts and amounts, in whatever order they were added, and the same order index
+-- the same set of places with their parts and amounts, in whatever order they were added, and the
+-- same order index
 pub record SameElement (e f : Element) : Type 0 where
   pub places : IsPermutation (placed e) (placed f)
   pub order : e.order ≡ f.order

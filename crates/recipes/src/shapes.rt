@@ -1,17 +1,15 @@
 //! The four standard shapes.
 
 ghost use Rattle.recipes.specs.Placed.{placed};
-ghost use Rattle.recipes.specs.Refusals.{element_number, refused_with};
-ghost use Rattle.recipes.specs.Shapes.{in_shape, shape_of, standard_place, standard_places, standard_refusal, standard_after, Members};
-ghost use Rattle.std.specs.Prelude.{◌≡◌, ◌/◌, ◌%◌, ◌<◌, pos, ◌-ℤ◌, is_ok, if◌then◌else◌, Some, OnErr};
+ghost use Rattle.recipes.specs.Shapes.{in_shape, standard_place, standard_places};
+ghost use Rattle.std.specs.Prelude.{◌≡◌, ◌/◌, ◌%◌, pos, ◌-ℤ◌};
 
-use crate::edits::ORIGIN;
-use crate::element::Element;
+use crate::element::{Element, MOST_PLACES};
 use crate::places::{Part, Place};
 use crate::refusals::ElementRefusal;
 
 /// A standard shape.
-#[derive(Clone, Copy)]
+#[derive(Clone, Copy, PartialEq, Eq, Debug)]
 pub enum Shape {
     /// The origin with its four neighbours.
     Cross,
@@ -26,9 +24,9 @@ pub enum Shape {
 impl TryFrom<u32> for Shape {
     type Error = ElementRefusal;
 
-    ghost use Rattle.recipes.specs.Shapes.{Numbered};
+    ghost use Rattle.recipes.specs.Shapes.{IsNumbered};
 
-    ghost try_from_gives = { Numbered };
+    ghost try_from_gives = { IsNumbered };
 
     /// The shape of a number, from 0 to 3. Refused above 3 (9).
     fn try_from(i: u32) -> Result<Shape, ElementRefusal> {
@@ -43,8 +41,28 @@ impl TryFrom<u32> for Shape {
 }
 
 impl Shape {
+    /// The element of the shape: its places row by row, with amounts 0, and order 1.
+    pub(crate) fn element(self) -> Element
+        ensures places { placed result ≡ standard_places self }
+        ensures order { result.order ≡ 1 }
+    {
+        // Not by the element's `push`: there is no element before the origin is met.
+        let mut places = [Place::ORIGIN; MOST_PLACES];
+        let mut count = 0;
+        let cells = (0..49).map(cell);
+        for place in cells.filter(|place| self.contains(place.dx, place.dy)) {
+            places[count] = place;
+            count += 1;
+        }
+        Element {
+            places,
+            count,
+            order: 1,
+        }
+    }
+
     /// Whether the offsets lie in the shape.
-    pub(crate) fn contains(self, dx: i32, dy: i32) -> bool
+    fn contains(self, dx: i32, dy: i32) -> bool
         ensures { result ≡ in_shape self dx dy }
     {
         let (x, y) = (dx.unsigned_abs(), dy.unsigned_abs());
@@ -54,20 +72,6 @@ impl Shape {
             Shape::Octagon5 => x <= 2 && y <= 2 && !(x == 2 && y == 2),
             Shape::Square7 => x <= 3 && y <= 3,
         }
-    }
-}
-
-impl Element {
-    /// Overwrites the element by the standard shape of a number, with amounts 0 and order 1. Refused where the number is above 3 (9).
-    pub fn standard(&mut self, i: u32) -> Result<(), ElementRefusal>
-        ensures answer { refused_with element_number result ≡ standard_refusal (shape_of i) }
-        ensures places { placed self.new ≡ standard_after (shape_of i) (placed self.old) }
-        ensures members { (s : Shape) → shape_of i ≡ Some s → Members s (placed self.new) }
-        ensures order { self.new.order ≡ (if is_ok result then 1 else self.old.order) }
-        ensures kept { OnErr result (self.new ≡ self.old) }
-    {
-        *self = shaped(Shape::try_from(i)?);
-        Ok(())
     }
 }
 
@@ -87,25 +91,5 @@ fn cell(n: u8) -> Place
         dy,
         part,
         amount: 0,
-    }
-}
-
-/// The element of a shape, its places row by row.
-fn shaped(shape: Shape) -> Element
-    ensures places { placed result ≡ standard_places shape }
-    ensures order { result.order ≡ 1 }
-{
-    // Not by the element's `push`: there is no element before the origin is met.
-    let mut places = [ORIGIN; 49];
-    let mut count = 0;
-    let cells = (0..49).map(cell);
-    for place in cells.filter(|place| shape.contains(place.dx, place.dy)) {
-        places[count] = place;
-        count += 1;
-    }
-    Element {
-        places,
-        count,
-        order: 1,
     }
 }

@@ -3,7 +3,7 @@
 use crate::draft::Draft;
 use crate::element::Element;
 use crate::places::Part;
-use crate::reads::Reach;
+use crate::reach::Reach;
 use crate::recipe::Operation;
 use std::test::Fail;
 

@@ -1,11 +1,12 @@
--- What is told of a call on a card: the answer that the rules of the call give, by the line that stands for it. Assumes nothing.
+-- What is told of a call on a card: the answer that the rules of the call give, by the line that
+-- stands for it. Assumes nothing.
 use Rattle.std.specs.Prelude.{◌≡◌, ◌≢◌, ◌⊎◌, ℕ, ◌-◌, ◌*◌, if◌then◌else◌, ◌||◌, List, ◌++◌, length, take, replicate, ℤ, pos, Ok, Some, None, Err, MatchResult, Option, Result, String, ◌==◌, string_bytes}
 use Rattle.std.specs.Borrow.{Bor}
 use Rattle.std.specs.declared.alloc.AllocError.{AllocError}
 use Rattle.std.specs.declared.alloc.Global.{Global}
 use Rattle.tones.specs.Kind.{Kind}
 use Rattle.recipes.specs.declared.draft.Draft.{Draft}
-use Rattle.calls.specs.Calls.{Notes, State, Call, done, number, piece}
+use Rattle.calls.specs.Calls.{State, Call, done, number, piece}
 use Rattle.calls.specs.Calls.Call.{Install, Patch, Work, Row, Left, Due}
 use Rattle.calls.specs.Calls.Answer.{Number, Next}
 use Rattle.calls.specs.Opening.{fresh, open_refusal}
@@ -27,11 +28,13 @@ use Rattle.lines.specs.declared.commands.Opening.{Opening}
 use Rattle.lines.specs.declared.commands.Patch.{Patch as Rectangle}
 use Rattle.rehearse.specs.Rooms.{room_of}
 use Rattle.texts.specs.Rows.{NotRead, RowsWritten, relief_shown, rows_text}
+use Rattle.texts.specs.Scripted.{Scripted}
 use Rattle.tones.specs.declared.refusals.ToneRefusal.{ToneRefusal}
 
 -- a call that is accepted or refused
 abbrev pub Plays : {T R : Type 0} → Kind T R → State R → Call R → Result Answer Fault → State R → Type 0
-Plays K s call r t = (x : Result (Unit {0}) Refusal) × (r ≡ call_told x) × Outcome K s call (done x) t
+Plays K s call r t =
+    (x : Result (Unit {0}) Refusal) × (r ≡ call_told x) × Outcome K s call (done x) t
 
 -- the present draft is handed over, if there is one
 abbrev pub HandsOver : {T R : Type 0} → Kind T R → State R → Option Draft → Result Answer Fault → State R → Type 0
@@ -60,35 +63,54 @@ NotMade written r = (f : Fault) × (r ≡ Err f) × NotRead written f
 
 -- rows are told by their text
 abbrev pub RowsTold : {R : Type 0} → (R → List ℕ) → List R → Result Answer Fault → Type 0
-RowsTold shown rows r = MatchResult r (λ a. (t : String Global) × (a ≡ told.Rows t) × (string_bytes t ≡ rows_text shown rows)) (λ f. (m : AllocError) × (f ≡ Memory m))
+RowsTold shown rows r = MatchResult r
+    (λ a. (t : String Global) × (a ≡ told.Rows t) × (string_bytes t ≡ rows_text shown rows))
+    (λ f. (m : AllocError) × (f ≡ Memory m))
 
 -- a patch of the rows that the words write
-abbrev pub Patches : {T R : Type 0} → Kind T R → (Rest → List R → Type 0) → State R → Rectangle → Rest → Result Answer Fault → State R → Type 0
-Patches {R = R} K Written s p ws r t = (NotMade (Written ws) r × (t ≡ s)) ⊎ ((rows : List R) × Written ws rows × Plays K s (Patch p.x p.y p.width p.height rows) r t)
+abbrev pub Patches : {T R : Type 0} → Kind T R → Scripted R → State R
+    → Rectangle → Rest → Result Answer Fault → State R → Type 0
+Patches {R = R} K W s p ws r t = (NotMade (RowsWritten W.written ws) r × (t ≡ s))
+    ⊎ ((rows : List R) × RowsWritten W.written ws rows
+    × Plays K s (Patch p.x p.y p.width p.height rows) r t)
 
 -- a piece of the finished card
 abbrev pub PieceTold : {R : Type 0} → (R → List ℕ) → Result (Bor (List R)) Refusal → Result Answer Fault → Type 0
 PieceTold shown (Ok p) r = RowsTold shown p.now r
 PieceTold shown (Err e) r = r ≡ Err (Card e)
 
-abbrev pub TellsRow : {T R : Type 0} → Kind T R → (R → List ℕ) → State R → ℕ → ℕ → ℕ → Result Answer Fault → Type 0
-TellsRow {R = R} K shown s x y n r = (p : Result (Bor (List R)) Refusal) × Outcome K s (Row x y n) (piece p) s × PieceTold shown p r
+abbrev pub TellsRow : {T R : Type 0} → Kind T R → Scripted R → State R
+    → ℕ → ℕ → ℕ → Result Answer Fault → Type 0
+TellsRow {R = R} K W s x y n r = (p : Result (Bor (List R)) Refusal)
+    × Outcome K s (Row x y n) (piece p) s × PieceTold W.shown p r
 
--- the memory that a card is opened with: plane 0 has the rows, or zeros where there are none, and every other plane zeros; rows of another count are all of the memory
+-- the memory that a card is opened with: plane 0 has the rows, or zeros where there are none, and
+-- every other plane zeros; rows of another count are all of the memory
 abbrev pub lent : {R : Type 0} → Option (ℕ × ℕ) → R → List R → List R
 lent None zero rows = rows
-lent (Some room) zero rows = if length rows == 0 || length rows == room.1 then take room.0 rows ++ replicate (room.0 - length rows) zero else rows
+lent (Some room) zero rows = if length rows == 0 || length rows == room.1
+    then take room.0 rows ++ replicate (room.0 - length rows) zero else rows
+
+-- why a card is not opened so on this memory, if it is not
+abbrev pub refused_opening : {T R : Type 0} → Kind T R → ℕ → List R → Opening → Option ℕ
+refused_opening K range memory o = open_refusal K.count range (length memory) o.width o.height o.stages
 
 -- a card is opened on this memory, which it then has
-pub record Opened {T R : Type 0} (K : Kind T R) (range : ℕ) (s : State R) (o : Opening) (memory : List R) (x : Result (Unit {0}) Refusal) (t : State R) : Type 0 where
-  pub answer : done {R = R} x ≡ done_unless (open_refusal K.count range (length memory) o.width o.height o.stages)
-  pub notes : t.notes ≡ kept_if (open_refusal K.count range (length memory) o.width o.height o.stages) s.notes (Some (fresh o.width o.height o.stages))
+pub record Opened {T R : Type 0} (K : Kind T R) (range : ℕ) (s : State R) (o : Opening)
+    (memory : List R) (x : Result (Unit {0}) Refusal) (t : State R) : Type 0 where
+  pub answer : done {R = R} x ≡ done_unless (refused_opening K range memory o)
+  pub notes : t.notes ≡ kept_if (refused_opening K range memory o) s.notes
+      (Some (fresh o.width o.height o.stages))
   pub held : MatchResult x (λ _. t.memory ≡ memory) (λ _. t.memory ≡ s.memory)
   pub weights : t.weights ≡ s.weights
 
 -- a card is opened with the rows that the words write
-abbrev pub Opens : {T R : Type 0} → Kind T R → ℕ → (R → Type 0) → (Rest → List R → Type 0) → State R → Opening → Rest → Result Answer Fault → State R → Type 0
-Opens {R = R} K range Zero Written s o ws r t = (NotMade (Written ws) r × (t ≡ s)) ⊎ ((rows : List R) × (zero : R) × (x : Result (Unit {0}) Refusal) × Written ws rows × Zero zero × (r ≡ call_told x) × Opened K range s o (lent (room_of o.width o.height o.stages) zero rows) x t)
+abbrev pub Opens : {T R : Type 0} → Kind T R → Scripted R → (R → Type 0) → ℕ → State R
+    → Opening → Rest → Result Answer Fault → State R → Type 0
+Opens {R = R} K W Zero range s o ws r t = (NotMade (RowsWritten W.written ws) r × (t ≡ s))
+    ⊎ ((rows : List R) × (zero : R) × (x : Result (Unit {0}) Refusal)
+    × RowsWritten W.written ws rows × Zero zero × (r ≡ call_told x)
+    × Opened K range s o (lent (room_of o.width o.height o.stages) zero rows) x t)
 
 -- the number of the card's pixels after it
 abbrev pub area_after : Result Answer Fault → Opening → ℕ → ℕ
@@ -101,9 +123,10 @@ ReliefsTold (Ok _) reliefs r = RowsTold relief_shown reliefs r
 ReliefsTold (Err f) reliefs r = r ≡ Err f
 
 -- a residue, into so many reliefs
-abbrev pub TellsResidue : {R : Type 0} → (Option Notes → List R → List ℤ → Result (Unit {0}) Fault → List ℤ → Type 0) → State R → ℕ → Result Answer Fault → Type 0
-TellsResidue residues s n r = ((m : AllocError) × (r ≡ Err (Memory m)))
-    ⊎ ((x : Result (Unit {0}) Fault) × (reliefs : List ℤ) × residues s.notes s.memory (replicate n (pos 0)) x reliefs × ReliefsTold x reliefs r)
+abbrev pub TellsResidue : {R : Type 0} → Scripted R → State R → ℕ → Result Answer Fault → Type 0
+TellsResidue W s n r = ((m : AllocError) × (r ≡ Err (Memory m)))
+    ⊎ ((x : Result (Unit {0}) Fault) × (reliefs : List ℤ)
+    × W.residues s.notes s.memory (replicate n (pos 0)) x reliefs × ReliefsTold x reliefs r)
 
 -- what is told of a load
 abbrev pub load_told : Result (Unit {0}) Fault → Result Answer Fault
@@ -111,36 +134,43 @@ load_told (Ok _) = Ok told.Done
 load_told (Err f) = Err f
 
 -- a load of a file, if there is one
-abbrev pub LoadsFile : {R : Type 0} → (State R → ℕ → ℕ → List ℕ → Result (Unit {0}) Fault → State R → Type 0) → State R → ℕ → ℕ → Option (List ℕ) → Result Answer Fault → State R → Type 0
-LoadsFile loads s x y None r t = (r ≡ Err Unknown) × (t ≡ s)
-LoadsFile loads s x y (Some file) r t = (l : Result (Unit {0}) Fault) × (r ≡ load_told l) × loads s x y file l t
+abbrev pub LoadsFile : {R : Type 0} → Scripted R → State R
+    → ℕ → ℕ → Option (List ℕ) → Result Answer Fault → State R → Type 0
+LoadsFile W s x y None r t = (r ≡ Err Unknown) × (t ≡ s)
+LoadsFile W s x y (Some file) r t =
+    (l : Result (Unit {0}) Fault) × (r ≡ load_told l) × W.loads s x y file l t
 
 -- the tone of the parts that the words write: its code, or the refusal where no tone has them
 abbrev pub ToneTold : {T R : Type 0} → Kind T R → R → Result T ToneRefusal → Result Answer Fault → Type 0
 ToneTold K row (Ok t) r = (K.row t ≡ row) × (r ≡ Ok (told.Counted (K.code t)))
 ToneTold {T = T} K row (Err e) r = ((t : T) → K.row t ≢ row) × (r ≡ Err (Tone e))
 
-abbrev pub TellsTone : {T R : Type 0} → Kind T R → (Rest → R → Type 0) → Rest → Result Answer Fault → Type 0
-TellsTone {T} {R} K Written ws r = ((r ≡ Err Unknown) × ((row : R) → Written ws row → ⊥))
-    ⊎ ((row : R) × (x : Result T ToneRefusal) × Written ws row × ToneTold K row x r)
+abbrev pub TellsTone : {T R : Type 0} → Kind T R → Scripted R → Rest → Result Answer Fault → Type 0
+TellsTone {T} {R} K W ws r = ((r ≡ Err Unknown) × ((row : R) → W.written ws row → ⊥))
+    ⊎ ((row : R) × (x : Result T ToneRefusal) × W.written ws row × ToneTold K row x r)
 
 -- the present draft after a call: an install hands it over
 abbrev pub draft_after : Asked → Option Draft → Option Draft
 draft_after asked.Install draft = None
 draft_after call draft = draft
 
--- what a player's calls go by: the kind of its tones, what words write a row, what text shows one, the row by default, what residues and loads do, and the range of the card's selector
-module _ {T R : Type 0} (K : Kind T R) (Written : Rest → R → Type 0) (shown : R → List ℕ) (Zero : R → Type 0)
-    (residues : Option Notes → List R → List ℤ → Result (Unit {0}) Fault → List ℤ → Type 0) (loads : State R → ℕ → ℕ → List ℕ → Result (Unit {0}) Fault → State R → Type 0) (range : ℕ) where
-  -- the call that a command asks for is made on the card, with the present draft, or with what is read of a file; it is told, and leaves a card with its memory and the number of its pixels
+-- what a player's calls go by: the kind of its tones, what it is in scripts, the row by default,
+-- and the range of the card's selector
+module _ {T R : Type 0} (K : Kind T R) (W : Scripted R) (Zero : R → Type 0) (range : ℕ) where
+  -- the call that a command asks for is made on the card, with the present draft, or with what is
+  -- read of a file; it is told, and leaves a card with its memory and the number of its pixels
   abbrev pub Made : State R → ℕ → Option Draft → Asked → Result Answer Fault → State R → ℕ → Type 0
-  Made s n draft (asked.Open o rows) r t m = Opens K range Zero (RowsWritten Written) s o rows.now r t × (m ≡ area_after r o n)
+  Made s n draft (asked.Open o rows) r t m =
+      Opens K W Zero range s o rows.now r t × (m ≡ area_after r o n)
   Made s n draft asked.Install r t m = HandsOver K s draft r t × (m ≡ n)
-  Made s n draft (asked.Patch p rows) r t m = Patches K (RowsWritten Written) s p rows.now r t × (m ≡ n)
+  Made s n draft (asked.Patch p rows) r t m = Patches K W s p rows.now r t × (m ≡ n)
   Made s n draft (asked.Work b) r t m = Works K s b r t × (m ≡ n)
-  Made s n draft (asked.Row x y count) r t m = TellsRow K shown s x y count r × (t ≡ s) × (m ≡ n)
-  Made s n draft asked.Left r t m = (a : Answer) × (r ≡ Ok a) × TellsLeft K s a × (t ≡ s) × (m ≡ n)
-  Made s n draft asked.Due r t m = (a : Answer) × (r ≡ Ok a) × TellsDue K s a × (t ≡ s) × (m ≡ n)
-  Made s n draft asked.Residue r t m = TellsResidue residues s n r × (t ≡ s) × (m ≡ n)
-  Made s n draft (asked.Load x y path) r t m = (file : Option (List ℕ)) × LoadsFile loads s x y file r t × (m ≡ n)
-  Made s n draft (asked.Tone parts) r t m = TellsTone K Written parts.now r × (t ≡ s) × (m ≡ n)
+  Made s n draft (asked.Row x y count) r t m = TellsRow K W s x y count r × (t ≡ s) × (m ≡ n)
+  Made s n draft asked.Left r t m =
+      (a : Answer) × (r ≡ Ok a) × TellsLeft K s a × (t ≡ s) × (m ≡ n)
+  Made s n draft asked.Due r t m =
+      (a : Answer) × (r ≡ Ok a) × TellsDue K s a × (t ≡ s) × (m ≡ n)
+  Made s n draft asked.Residue r t m = TellsResidue W s n r × (t ≡ s) × (m ≡ n)
+  Made s n draft (asked.Load x y path) r t m =
+      (file : Option (List ℕ)) × LoadsFile W s x y file r t × (m ≡ n)
+  Made s n draft (asked.Tone parts) r t m = TellsTone K W parts.now r × (t ≡ s) × (m ≡ n)

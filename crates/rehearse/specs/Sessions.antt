@@ -1,10 +1,8 @@
 -- What a line of words does to a player and a desk, and what is told of it. Assumes nothing.
-use Rattle.std.specs.Prelude.{◌≡◌, ◌⊎◌, ℕ, List, [], ◌∷◌, ℤ, ◌++◌, codes, Err, Option, Result}
+use Rattle.std.specs.Prelude.{◌≡◌, ◌⊎◌, ℕ, List, [], ◌∷◌, ◌++◌, codes, Err, Result}
 use Rattle.std.specs.Borrow.{Bor}
 use Rattle.tones.specs.Kind.{Kind}
 use Rattle.recipes.specs.Placed.{placed}
-use Rattle.calls.specs.Calls.{Notes, State}
-use Rattle.cards.specs.Meanings.{state_of}
 use Rattle.selectors.specs.Played.{after}
 use Rattle.lines.specs.Desks.{Drafted, Edited, edit_order, edit_places}
 use Rattle.lines.specs.Lines.{Says}
@@ -18,46 +16,56 @@ use Rattle.lines.specs.declared.desk.Desk.{Desk}
 use Rattle.std.specs.Str.{IsUtf8}
 use Rattle.rehearse.specs.Cuts.{CutInto}
 use Rattle.rehearse.specs.Plays.{Made, Ranks, draft_after}
-use Rattle.rehearse.specs.Seen.{Seen}
+use Rattle.rehearse.specs.Seen.{Seen, stands}
+use Rattle.texts.specs.Scripted.{Scripted}
 use Rattle.rehearse.specs.declared.session.Line.{Line}
 use Rattle.rehearse.specs.declared.session.Line.TheVariants as line
 
 -- the first word is a name, and it and the others say a command
 abbrev pub Asks : Rest → Command → Type 0
-Asks ws c = (name : Bor (List ℕ)) × (others : Rest) × (ws ≡ name ∷ others) × Says name.now others c
+Asks ws c =
+    (name : Bor (List ℕ)) × (others : Rest) × (ws ≡ name ∷ others) × Says name.now others c
 
 -- there are no words, or the first begins with #
 abbrev pub Empty : Rest → Type 0
-Empty ws = (ws ≡ []) ⊎ ((name : Bor (List ℕ)) × (others : Rest) × (ws ≡ name ∷ others) × ((more : List ℕ) × (name.now ≡ codes "#" ++ more)))
+Empty ws = (ws ≡ []) ⊎ ((name : Bor (List ℕ)) × (others : Rest) × (ws ≡ name ∷ others)
+    × ((more : List ℕ) × (name.now ≡ codes "#" ++ more)))
 
 -- there are words, the first begins otherwise, and they say no command
 abbrev pub SaysNothing : Rest → Type 0
 SaysNothing ws = (Empty ws → ⊥) × ((c : Command) → Asks ws c → ⊥)
 
-module _ {T R S : Type 0} (K : Kind T R) (Written : Rest → R → Type 0) (shown : R → List ℕ) (Zero : R → Type 0)
-    (residues : Option Notes → List R → List ℤ → Result (Unit {0}) Fault → List ℤ → Type 0) (loads : State R → ℕ → ℕ → List ℕ → Result (Unit {0}) Fault → State R → Type 0)
+module _ {T R S : Type 0} (K : Kind T R) (W : Scripted R) (Zero : R → Type 0)
     (weight : S → ℕ → ℕ) (range : S → ℕ) where
   -- a command is played on a player and a desk, and told
-  abbrev pub Commanded : Seen T R S → Desk → Command → Result Answer Fault → Seen T R S → Desk → Type 0
+  abbrev pub Commanded : Seen T R S → Desk → Command
+      → Result Answer Fault → Seen T R S → Desk → Type 0
   Commanded p d (Choose c) r q e = ⊥
-  Commanded p d (OnElement edit) r q e =
-      (q ≡ p) × Edited (placed d.element) edit r
+  Commanded p d (OnElement edit) r q e = (q ≡ p) × Edited (placed d.element) edit r
       × (placed e.element ≡ edit_places (placed d.element) edit)
       × (e.element.order ≡ edit_order (placed d.element) d.element.order edit)
       × (e.draft ≡ d.draft)
-  Commanded p d (OnDraft drafting) r q e = (q ≡ p) × Drafted d.draft d.element drafting e.draft r × (e.element ≡ d.element)
-  Commanded p d (OnSelector call) r q e = (e ≡ d) × (q.card ≡ p.card) × (q.memory ≡ p.memory) × (q.area ≡ p.area) × Ranks (weight p.own) (range p.own) call r × ((c : ℕ) → weight q.own c ≡ after (weight p.own) (range p.own) call c)
-  Commanded p d (OnCard call) r q e =
-      (q.own ≡ p.own) × (e.element ≡ d.element) × (e.draft ≡ draft_after call d.draft)
-      × Made K Written shown Zero residues loads (range p.card.selector) (state_of weight p.card p.memory) p.area d.draft call r (state_of weight q.card q.memory) q.area
+  Commanded p d (OnDraft drafting) r q e = (q ≡ p)
+      × Drafted d.draft d.element drafting e.draft r × (e.element ≡ d.element)
+  Commanded p d (OnSelector call) r q e = (e ≡ d)
+      × (q.card ≡ p.card) × (q.memory ≡ p.memory) × (q.area ≡ p.area)
+      × Ranks (weight p.own) (range p.own) call r
+      × ((c : ℕ) → weight q.own c ≡ after (weight p.own) (range p.own) call c)
+  Commanded p d (OnCard call) r q e = (q.own ≡ p.own)
+      × (e.element ≡ d.element) × (e.draft ≡ draft_after call d.draft)
+      × Made K W Zero (range p.card.selector) (stands weight p) p.area d.draft call r
+      (stands weight q) q.area
 
-  -- a line is passed over, asks for another card, or is told: its command is played, or it is not read
+  -- a line is passed over, asks for another card, or is told: its command is played, or it is not
+  -- read
   abbrev pub Played : Rest → Seen T R S → Desk → Line → Seen T R S → Desk → Type 0
   Played ws p d line.Empty q e = Empty ws × (q ≡ p) × (e ≡ d)
   Played ws p d (line.Next c) q e = Asks ws (Choose c) × (q ≡ p) × (e ≡ d)
-  Played ws p d (line.Told r) q e = (SaysNothing ws × (r ≡ Err Unknown) × (q ≡ p) × (e ≡ d)) ⊎ ((c : Command) × Asks ws c × Commanded p d c r q e)
+  Played ws p d (line.Told r) q e = (SaysNothing ws × (r ≡ Err Unknown) × (q ≡ p) × (e ≡ d))
+      ⊎ ((c : Command) × Asks ws c × Commanded p d c r q e)
 
   -- a line of these bytes is played: the words that it is cut into, or it is no text, and not read
   abbrev pub LinePlayed : List ℕ → Seen T R S → Desk → Line → Seen T R S → Desk → Type 0
-  LinePlayed bytes p d l q e = (¬ (IsUtf8 bytes) × (l ≡ line.Told (Err Unknown)) × (q ≡ p) × (e ≡ d))
+  LinePlayed bytes p d l q e =
+      (¬ (IsUtf8 bytes) × (l ≡ line.Told (Err Unknown)) × (q ≡ p) × (e ≡ d))
       ⊎ (IsUtf8 bytes × ((ws : Rest) × CutInto bytes ws × Played ws p d l q e))

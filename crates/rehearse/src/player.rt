@@ -5,11 +5,10 @@ ghost use Rattle.std.specs.Prelude.{◌≡◌, ℕ, [], IfOk, None};
 ghost use Rattle.calls.specs.Calls.Answer.{Number};
 ghost use Rattle.calls.specs.Calls.Call.{Left};
 ghost use Rattle.calls.specs.Outcomes.{Outcome};
-ghost use Rattle.cards.specs.Meanings.{InOrder, notes, state_of};
-ghost use Rattle.rehearse.specs.Seen.{Seen};
+ghost use Rattle.cards.specs.Meanings.{InOrder, notes};
+ghost use Rattle.rehearse.specs.Seen.{Seen, stands};
 ghost use Rattle.rehearse.specs.Plays.{HandsOver, LoadsFile, Opens, Patches, Ranks, TellsDue, TellsLeft, TellsResidue, TellsRow, TellsTone, Works, area_after, lent};
 ghost use Rattle.rehearse.specs.Rooms.{room_of};
-ghost use Rattle.texts.specs.Rows.{RowsWritten};
 ghost use Rattle.selectors.specs.Played.{after};
 
 use cards::card::Card;
@@ -94,14 +93,18 @@ impl<T: Rows, S: Selector> Player<T, S> {
 
     /// The stale rows of the card.
     pub fn left(&self) -> usize
-        ensures { Outcome T.Tone.kind (state_of S.Selector.weight self.now.card self.now.memory) Left (Number result) (state_of S.Selector.weight self.now.card self.now.memory) }
+        ensures { let state = stands S.Selector.weight self.now in
+            Outcome T.Tone.kind state Left (Number result) state }
     {
         self.card.left()
     }
 
     /// Opens the card with these rows in plane 0, or zeros where there are none. With rows of another count they are all of the memory, which is then refused unless they fill it.
     pub fn open(&mut self, heap: Global, opening: Opening, words: &[&str]) -> Result<Answer, Fault>
-        ensures outcome { Opens T.Tone.kind (S.Selector.range self.old.card.selector) T.Row.Default.is_default (RowsWritten T.Rows.written) (state_of S.Selector.weight self.old.card self.old.memory) opening words.now result (state_of S.Selector.weight self.new.card self.new.memory) }
+        ensures outcome { let range = S.Selector.range self.old.card.selector in
+            Opens T.Tone.kind T.Rows.scripted T.Row.Default.is_default range
+            (stands S.Selector.weight self.old) opening words.now result
+            (stands S.Selector.weight self.new) }
         ensures area { self.new.area ≡ area_after result opening self.old.area }
         ensures own { self.new.own ≡ self.old.own }
     {
@@ -120,7 +123,8 @@ impl<T: Rows, S: Selector> Player<T, S> {
 
     /// Hands a draft over; not read without one.
     pub fn install(&mut self, draft: Option<Draft>) -> Result<Answer, Fault>
-        ensures outcome { HandsOver T.Tone.kind (state_of S.Selector.weight self.old.card self.old.memory) draft result (state_of S.Selector.weight self.new.card self.new.memory) }
+        ensures outcome { let before = stands S.Selector.weight self.old in
+            HandsOver T.Tone.kind before draft result (stands S.Selector.weight self.new) }
         ensures kept { (self.new.area ≡ self.old.area) × (self.new.own ≡ self.old.own) }
     {
         let draft = draft.ok_or(Fault::Unknown)?;
@@ -130,7 +134,8 @@ impl<T: Rows, S: Selector> Player<T, S> {
 
     /// Writes these rows into a rectangle.
     pub fn patch(&mut self, heap: Global, patch: Patch, words: &[&str]) -> Result<Answer, Fault>
-        ensures outcome { Patches T.Tone.kind (RowsWritten T.Rows.written) (state_of S.Selector.weight self.old.card self.old.memory) patch words.now result (state_of S.Selector.weight self.new.card self.new.memory) }
+        ensures outcome { Patches T.Tone.kind T.Rows.scripted (stands S.Selector.weight self.old)
+            patch words.now result (stands S.Selector.weight self.new) }
         ensures kept { (self.new.area ≡ self.old.area) × (self.new.own ≡ self.old.own) }
     {
         let rows = rows_read::<T>(heap, words)?;
@@ -148,7 +153,8 @@ impl<T: Rows, S: Selector> Player<T, S> {
 
     /// Redoes rows, at most as many as the budget.
     pub fn work(&mut self, budget: usize) -> Result<Answer, Fault>
-        ensures outcome { Works T.Tone.kind (state_of S.Selector.weight self.old.card self.old.memory) budget result (state_of S.Selector.weight self.new.card self.new.memory) }
+        ensures outcome { let before = stands S.Selector.weight self.old in
+            Works T.Tone.kind before budget result (stands S.Selector.weight self.new) }
         ensures kept { (self.new.area ≡ self.old.area) × (self.new.own ≡ self.old.own) }
     {
         let rows = self.card.work(self.memory.as_mut_slice(), budget)?;
@@ -157,7 +163,7 @@ impl<T: Rows, S: Selector> Player<T, S> {
 
     /// Tells a piece of the finished card.
     pub fn row(&self, heap: Global, x: usize, y: usize, n: usize) -> Result<Answer, Fault>
-        ensures { TellsRow T.Tone.kind T.Rows.shown (state_of S.Selector.weight self.now.card self.now.memory) x y n result }
+        ensures { TellsRow T.Tone.kind T.Rows.scripted (stands S.Selector.weight self.now) x y n result }
     {
         let rows = self.card.row(self.memory.as_slice(), x, y, n)?;
         Ok(Answer::Rows(rows_shown::<T>(heap, rows)?))
@@ -165,21 +171,21 @@ impl<T: Rows, S: Selector> Player<T, S> {
 
     /// Tells the stale rows.
     pub fn tell_left(&self) -> Answer
-        ensures { TellsLeft T.Tone.kind (state_of S.Selector.weight self.now.card self.now.memory) result }
+        ensures { TellsLeft T.Tone.kind (stands S.Selector.weight self.now) result }
     {
         Answer::Number(self.card.left() as u64)
     }
 
     /// Tells the next row.
     pub fn tell_due(&self) -> Answer
-        ensures { TellsDue T.Tone.kind (state_of S.Selector.weight self.now.card self.now.memory) result }
+        ensures { TellsDue T.Tone.kind (stands S.Selector.weight self.now) result }
     {
         Answer::Due(self.card.due())
     }
 
     /// Tells raw minus finished; not read where the kind has no residues.
     pub fn residue(&self, heap: Global) -> Result<Answer, Fault>
-        ensures { TellsResidue T.Rows.residues (state_of S.Selector.weight self.now.card self.now.memory) self.now.area result }
+        ensures { TellsResidue T.Rows.scripted (stands S.Selector.weight self.now) self.now.area result }
     {
         let mut reliefs = vec![in heap; 0i16; self.area]?;
         T::residue(&self.card, self.memory.as_slice(), reliefs.as_mut_slice())?;
@@ -188,7 +194,9 @@ impl<T: Rows, S: Selector> Player<T, S> {
 
     /// Patches the card with a file; not read without one, or where the kind has no files.
     pub fn load(&mut self, x: usize, y: usize, file: Option<Vec<u8>>) -> Result<Answer, Fault>
-        ensures outcome { LoadsFile T.Rows.loads (state_of S.Selector.weight self.old.card self.old.memory) x y (option_map (λ bytes. bytes.items) file) result (state_of S.Selector.weight self.new.card self.new.memory) }
+        ensures outcome { LoadsFile T.Rows.scripted (stands S.Selector.weight self.old)
+            x y (option_map (λ bytes. bytes.items) file) result
+            (stands S.Selector.weight self.new) }
         ensures kept { (self.new.area ≡ self.old.area) × (self.new.own ≡ self.old.own) }
     {
         let bytes = file.ok_or(Fault::Unknown)?;
@@ -199,7 +207,7 @@ impl<T: Rows, S: Selector> Player<T, S> {
 
     /// Makes a tone of these parts, and tells its code.
     pub fn tone(&self, words: &[&str]) -> Result<Answer, Fault>
-        ensures { TellsTone T.Tone.kind T.Rows.written words.now result }
+        ensures { TellsTone T.Tone.kind T.Rows.scripted words.now result }
     {
         let row = T::read(words).ok_or(Fault::Unknown)?;
         let tone = T::make(row)?;

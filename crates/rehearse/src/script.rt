@@ -42,7 +42,8 @@ impl Script {
 
     /// The present line, where it is text.
     pub fn text(&self) -> Option<&str>
-        ensures { MatchOption result (¬ (IsUtf8 self.now.line.items)) (λ text. text.now ≡ self.now.line.items) }
+        ensures { let line = self.now.line.items in
+            MatchOption result (¬ (IsUtf8 line)) (λ text. text.now ≡ line) }
     {
         std::str::from_utf8(self.line.as_slice()).ok()
     }

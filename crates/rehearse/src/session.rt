@@ -1,7 +1,7 @@
 //! Plays the lines of a script on one card, until another is asked for.
 
-ghost use Rattle.std.specs.Prelude.{◌≡◌, MatchResult};
-ghost use Rattle.cards.specs.Meanings.{state_of};
+ghost use Rattle.std.specs.Prelude.{◌≡◌, IfErr, IfOk};
+ghost use Rattle.rehearse.specs.Seen.{stands};
 ghost use Rattle.lines.specs.Told.{played_after, refused_after};
 ghost use Rattle.rehearse.specs.Plays.{Made, draft_after};
 ghost use Rattle.rehearse.specs.Sessions.{LinePlayed, Played};
@@ -61,9 +61,13 @@ fn call<T: Rows, S: Selector>(
     desk: &mut Desk,
     call: Call,
 ) -> Result<Answer, Fault>
-    ensures made { Made T.Tone.kind T.Rows.written T.Rows.shown T.Row.Default.is_default T.Rows.residues T.Rows.loads (S.Selector.range player.old.card.selector) (state_of S.Selector.weight player.old.card player.old.memory) player.old.area desk.old.draft call.entry result (state_of S.Selector.weight player.new.card player.new.memory) player.new.area }
+    ensures made { let range = S.Selector.range player.old.card.selector in
+        Made T.Tone.kind T.Rows.scripted T.Row.Default.is_default range
+        (stands S.Selector.weight player.old) player.old.area desk.old.draft call.entry result
+        (stands S.Selector.weight player.new) player.new.area }
     ensures own { player.new.own ≡ player.old.own }
-    ensures desk { (desk.new.element ≡ desk.old.element) × (desk.new.draft ≡ draft_after call.entry desk.old.draft) }
+    ensures desk { (desk.new.element ≡ desk.old.element)
+        × (desk.new.draft ≡ draft_after call.entry desk.old.draft) }
 {
     let heap = rt.alloc();
     match call {
@@ -87,7 +91,9 @@ fn play<T: Rows, S: Selector>(
     desk: &mut Desk,
     words: &[&str],
 ) -> Line
-    ensures { Played T.Tone.kind T.Rows.written T.Rows.shown T.Row.Default.is_default T.Rows.residues T.Rows.loads S.Selector.weight S.Selector.range words.now player.old desk.old result player.new desk.new }
+    ensures { Played T.Tone.kind T.Rows.scripted T.Row.Default.is_default
+        S.Selector.weight S.Selector.range
+        words.now player.old desk.old result player.new desk.new }
 {
     let [name, rest @ ..] = words else {
         return Line::Empty;
@@ -113,7 +119,10 @@ fn play_line<T: Rows, S: Selector>(
     player: &mut Player<T, S>,
     evening: &mut Evening,
 ) -> Result<Line, AllocError>
-    ensures line { MatchResult result (λ line. LinePlayed T.Tone.kind T.Rows.written T.Rows.shown T.Row.Default.is_default T.Rows.residues T.Rows.loads S.Selector.weight S.Selector.range evening.old.script.line.items player.old evening.old.desk line player.new evening.new.desk) (λ _. (player.new ≡ player.old) × (evening.new.desk ≡ evening.old.desk)) }
+    ensures line { IfOk result (λ line. LinePlayed T.Tone.kind T.Rows.scripted T.Row.Default.is_default
+        S.Selector.weight S.Selector.range evening.old.script.line.items
+        player.old evening.old.desk line player.new evening.new.desk) }
+    ensures unplayed { IfErr result (λ _. (player.new ≡ player.old) × (evening.new.desk ≡ evening.old.desk)) }
     ensures kept { (evening.new.tally ≡ evening.old.tally) × (evening.new.script ≡ evening.old.script) }
 {
     let Some(text) = evening.script.text() else {

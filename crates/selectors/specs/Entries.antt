@@ -1,6 +1,7 @@
 -- The bag that a list of entries stands for. Assumes nothing.
 use Rattle.std.specs.Prelude.{◌≡◌, ℕ, ◌/◌, ◌^◌, ◌<◌, ◌≤◌, cond, List, length, get_or, Ok, Err, Result, ◌==◌, ◌≢◌, slice_index_or}
 use Rattle.selectors.specs.declared.entries.Entry.{Entry}
+use Rattle.selectors.specs.declared.limits.TheConstants.{WIDE_RANGE}
 use Rattle.selectors.specs.Bag.{below}
 
 -- stands where a list has no entry
@@ -36,7 +37,8 @@ abbrev pub Found : List Entry → ℕ → Result ℕ ℕ → Type 0
 Found es c (Ok i) = (i < length es) × ((get_or es i blank).code ≡ c)
 Found es c (Err at) = (at ≤ length es) × ((i : ℕ) → i < length es → (get_or es i blank).code ≢ c)
 
--- the place of an entry with the code c, or the place between smaller and larger codes where it belongs
+-- the place of an entry with the code c, or the place between smaller and larger codes where it
+-- belongs
 abbrev pub Seat : List Entry → ℕ → Result ℕ ℕ → Type 0
 Seat es c (Ok i) = (i < length es) × ((get_or es i blank).code ≡ c)
 Seat es c (Err at) =
@@ -46,4 +48,4 @@ Seat es c (Err at) =
 
 -- an entry that a put may take: it has weight, and its code is below the range
 abbrev pub Fit : Entry → Type 0
-Fit e = (0 < e.weight) × (e.code < 33554432)
+Fit e = (0 < e.weight) × (e.code < WIDE_RANGE)

@@ -5,3 +5,4 @@ pub mod Median
 pub mod Played
 pub mod Tally
 pub mod Theorems
+pub mod Weights

@@ -1,16 +1,22 @@
--- The weighted median of a list of entries, put one by one into an empty selector of range R. Assumes nothing.
-use Rattle.std.specs.Prelude.{◌≡◌, ℕ, suc, ◌*◌, ◌<◌, ◌≤◌, List, length, Some, None, Option, Ok, Err, Result, slice_index_or}
+-- The weighted median of a list of entries, put one by one into an empty selector of range R.
+-- Assumes nothing.
+use Rattle.std.specs.Prelude.{◌≡◌, ℕ, suc, ◌*◌, ◌<◌, ◌≤◌, List, ◌++◌, length, Some, None, Option, Ok, Err, Result, codes, decimal, slice_index_or}
 use Rattle.selectors.specs.declared.entries.Entry.{Entry}
 use Rattle.selectors.specs.declared.median.MedianRefusal.{MedianRefusal}
 use Rattle.selectors.specs.declared.median.MedianRefusal.TheVariants.{Refused, NoEntries}
 use Rattle.selectors.specs.Bag.{below}
-use Rattle.selectors.specs.Calls.{put_refusal, put_number}
+use Rattle.selectors.specs.Calls.{put_refusal, put_number, put_text, refusal_text}
 use Rattle.selectors.specs.Entries.{blank, bag, weigh}
 
 -- the number of each refusal
 abbrev pub median_number : MedianRefusal → ℕ
 median_number (Refused i e) = put_number e
 median_number NoEntries = 5
+
+-- a refusal as it is printed: that of the put, with the entry's index, or its number and its cause
+abbrev pub median_text : MedianRefusal → List ℕ
+median_text (Refused i e) = put_text e ++ codes " (entry " ++ decimal i ++ codes ")"
+median_text NoEntries = refusal_text (median_number NoEntries) (codes "there are no entries")
 
 -- the number that refuses the put of the i-th entry, after those before it
 abbrev pub put_at : List Entry → ℕ → ℕ → Option ℕ

@@ -1,4 +1,5 @@
--- What a call answers on a selector with the bag w and the range R, and the bag that it leaves. Assumes nothing.
+-- What a call answers on a selector with the bag w and the range R, and the bag that it leaves.
+-- Assumes nothing.
 use Rattle.std.specs.Prelude.{◌≡◌, ℕ, List, Some, None, Option, Ok, Err, codes, Result}
 use Rattle.selectors.specs.declared.calls.Kind.{Kind}
 use Rattle.selectors.specs.declared.calls.Kind.TheVariants.{Gate, Histogram, Ladder}
@@ -10,7 +11,7 @@ use Rattle.selectors.specs.declared.calls.CallRefusal.{CallRefusal}
 use Rattle.selectors.specs.declared.calls.CallRefusal.TheVariants as refused
 use Rattle.selectors.specs.declared.refusals.SelectRefusal.{SelectRefusal}
 use Rattle.selectors.specs.Bag.{below}
-use Rattle.selectors.specs.Calls.{put_bag, put_number, put_refusal, Selected, select_number}
+use Rattle.selectors.specs.Calls.{put_bag, put_number, put_refusal, put_text, Selected, select_number, select_text}
 
 -- the word that names a kind
 abbrev pub name_of : Kind → List ℕ
@@ -22,6 +23,11 @@ name_of Ladder = codes "ladder"
 abbrev pub call_number : CallRefusal → ℕ
 call_number (refused.Put e) = put_number e
 call_number (refused.Select e) = select_number e
+
+-- a refusal as it is printed
+abbrev pub call_text : CallRefusal → List ℕ
+call_text (refused.Put e) = put_text e
+call_text (refused.Select e) = select_text e
 
 -- a call's result, with the number of the refusal in place of its cause
 abbrev pub numbered : Result Reply CallRefusal → Result Reply ℕ

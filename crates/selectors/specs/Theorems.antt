@@ -5,7 +5,11 @@ use Rattle.selectors.specs.Calls.{Selected}
 
 -- a rank has exactly one answer
 abbrev pub OneAnswer : Type 0
-OneAnswer = (w : ℕ → ℕ) (R r : ℕ) → (x : Result ℕ SelectRefusal) × Selected w R r x × ((y : Result ℕ SelectRefusal) → Selected w R r y → y ≡ x)
+OneAnswer =
+    (w : ℕ → ℕ) (R r : ℕ)
+    → (x : Result ℕ SelectRefusal)
+    × Selected w R r x
+    × ((y : Result ℕ SelectRefusal) → Selected w R r y → y ≡ x)
 
 -- a code that is answered is below the range and has weight
 abbrev pub AnswerHasWeight : Type 0

@@ -1,11 +1,13 @@
 //! Calls of a selector as values: the names of the kinds, the calls, and what they answer.
-ghost use Rattle.std.specs.Prelude.{◌≡◌, ℕ, MatchResult, ◌≢◌};
-ghost use Rattle.selectors.specs.Played.{Answered, after, call_number, name_of};
+ghost use Rattle.std.specs.Prelude.{◌≡◌, ℕ, MatchResult, Some, codes, ◌≢◌};
+ghost use Rattle.selectors.specs.Played.{Answered, after, call_number, call_text, name_of};
 ghost use Rattle.selectors.specs.declared.calls.CallRefusal.TheVariants as refused;
 ghost use Rattle.selectors.specs.declared.calls.Kind.{Kind as Named};
 
 use crate::refusals::{PutRefusal, SelectRefusal};
 use crate::selector::Selector;
+use std::error::Error;
+use std::fmt;
 use std::str::FromStr;
 
 /// One of the three selectors.
@@ -20,11 +22,22 @@ pub enum Kind {
 #[derive(Clone, Copy, PartialEq, Eq, Debug)]
 pub struct UnknownKind;
 
+impl fmt::Display for UnknownKind {
+    ghost output = { λ _. Some (codes "no selector has this name") };
+
+    fn fmt<W: fmt::Write>(&self, f: &mut fmt::Formatter<W>) -> fmt::Result {
+        write!(f, "no selector has this name")
+    }
+}
+
+impl Error for UnknownKind {}
+
 /// Reads a selector's name.
 impl FromStr for Kind {
     type Err = UnknownKind;
 
-    ghost from_str_gives = { λ w r. MatchResult r (λ k. w ≡ name_of k) (λ _. (k : Named) → w ≢ name_of k) };
+    ghost from_str_gives = { λ word result. MatchResult result (λ kind. word ≡ name_of kind)
+        (λ _. (kind : Named) → word ≢ name_of kind) };
 
     fn from_str(name: &str) -> Result<Kind, UnknownKind> {
         match name {
@@ -73,6 +86,20 @@ impl CallRefusal {
         }
     }
 }
+
+/// The number and the cause in words.
+impl fmt::Display for CallRefusal {
+    ghost output = { λ refusal. Some (call_text refusal) };
+
+    fn fmt<W: fmt::Write>(&self, f: &mut fmt::Formatter<W>) -> fmt::Result {
+        match self {
+            CallRefusal::Put(refusal) => write!(f, "{refusal}"),
+            CallRefusal::Select(refusal) => write!(f, "{refusal}"),
+        }
+    }
+}
+
+impl Error for CallRefusal {}
 
 impl From<PutRefusal> for CallRefusal {
     ghost from_gives = { λ r e. e ≡ refused.Put r };

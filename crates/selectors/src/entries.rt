@@ -1,6 +1,7 @@
 //! Codes with their weights, as the gate and the ladder keep them.
 ghost use Rattle.std.specs.Prelude.{◌≡◌, ℕ, ◌≤◌, ◌⊎◌, Err, MatchResult, Ok, length, take};
 ghost use Rattle.selectors.specs.Bag.{below};
+ghost use Rattle.selectors.specs.declared.limits.TheConstants.{MOST_CODES, MOST_WEIGHT, WIDE_RANGE};
 ghost use Rattle.selectors.specs.Calls.{put_bag, put_number, put_refusal, put_refused};
 ghost use Rattle.selectors.specs.Entries.{Fit, Found, Rising, Seat, Weighty, bag, weigh};
 ghost use Rattle.selectors.specs.Tally.{Tally};
@@ -22,7 +23,7 @@ impl Entry {
     /// The entry, where a put may take it: it has weight, and its code is below the range.
     pub(crate) fn checked(code: u32, weight: u32) -> Result<Entry, PutRefusal>
         ensures { MatchResult result (λ e. (e ≡ record { code = code; weight = weight }) × Fit e)
-            (λ r. (put_number r ≡ 2) × ((weight ≡ 0) ⊎ (33554432 ≤ code))) }
+            (λ r. (put_number r ≡ 2) × ((weight ≡ 0) ⊎ (WIDE_RANGE ≤ code))) }
     {
         if weight == 0 || code >= WIDE_RANGE {
             return Err(PutRefusal::Unfit);
@@ -31,22 +32,25 @@ impl Entry {
     }
 }
 
-/// The codes that have weight, with what they weigh. The places are a fixed array: there are at most 64 codes, and nothing here may allocate.
+/// The codes that have weight, with what they weigh. The places are a fixed array: there are at most
+/// 64 codes, and nothing here may allocate.
 #[derive(Clone, Copy)]
 pub struct Entries {
     places: [Entry; MOST_CODES],
     count: usize,
     sum: u32,
-    ghost size: { length places ≡ 64 },
+    ghost size: { length places ≡ MOST_CODES },
     ghost weighty: { Weighty places count },
-    ghost tally: { Tally (weigh places count) 33554432 count sum },
+    ghost tally: { Tally (weigh places count) WIDE_RANGE count sum },
 }
 
 impl Entries {
+    ghost use Rattle.selectors.specs.Weights.{entries_weight};
+
     /// No entries.
     pub fn new() -> Entries
         ensures none { result.count ≡ 0 }
-        ensures weights { (c : ℕ) → weigh result.places result.count c ≡ 0 }
+        ensures weights { (c : ℕ) → entries_weight result c ≡ 0 }
     {
         Entries {
             places: [Entry::BLANK; MOST_CODES],
@@ -58,8 +62,9 @@ impl Entries {
     /// The entries, in the order of their places.
     pub fn as_slice(&self) -> &[Entry]
         ensures items { result.now ≡ take self.now.count self.now.places }
-        ensures same_bag { bag result.now ≡ weigh self.now.places self.now.count }
-        ensures rising { Rising self.now.places self.now.count → Rising result.now (length result.now) }
+        ensures same_bag { bag result.now ≡ entries_weight self.now }
+        ensures rising { Rising self.now.places self.now.count
+            → Rising result.now (length result.now) }
     {
         &self.places[..self.count]
     }
@@ -73,8 +78,8 @@ impl Entries {
 
     /// The sum of all weights.
     pub fn total(&self) -> u32
-        ensures answer { result ≡ below (weigh self.now.places self.now.count) 33554432 }
-        ensures light { result ≤ 65535 }
+        ensures answer { result ≡ below (entries_weight self.now) WIDE_RANGE }
+        ensures light { result ≤ MOST_WEIGHT }
     {
         self.sum
     }
@@ -82,7 +87,7 @@ impl Entries {
     /// Takes all entries away.
     pub fn clear(&mut self)
         ensures none { self.new.count ≡ 0 }
-        ensures weights { (c : ℕ) → weigh self.new.places self.new.count c ≡ 0 }
+        ensures weights { (c : ℕ) → entries_weight self.new c ≡ 0 }
     {
         self.count = 0;
         self.sum = 0;
@@ -92,11 +97,11 @@ impl Entries {
     pub fn raise(&mut self, at: usize, entry: Entry) -> Result<(), PutRefusal>
         requires { Fit entry × Found (take self.old.count self.old.places) entry.code (Ok at) }
         ensures answer { put_refused result
-            ≡ put_refusal (weigh self.old.places self.old.count) 33554432 entry.code entry.weight }
-        ensures weights { let w = weigh self.old.places self.old.count in (c : ℕ)
-            → weigh self.new.places self.new.count c
-            ≡ put_bag (put_refused result) w entry.code entry.weight c }
-        ensures rising { Rising self.old.places self.old.count → Rising self.new.places self.new.count }
+            ≡ put_refusal (entries_weight self.old) WIDE_RANGE entry.code entry.weight }
+        ensures weights { (c : ℕ) → entries_weight self.new c
+            ≡ put_bag (put_refused result) (entries_weight self.old) entry.code entry.weight c }
+        ensures rising { Rising self.old.places self.old.count
+            → Rising self.new.places self.new.count }
     {
         self.sum = heavier(self.sum, entry.weight)?;
         self.places[at].weight += entry.weight;
@@ -107,10 +112,9 @@ impl Entries {
     pub fn insert(&mut self, at: usize, entry: Entry) -> Result<(), PutRefusal>
         requires { Fit entry × Found (take self.old.count self.old.places) entry.code (Err at) }
         ensures answer { put_refused result
-            ≡ put_refusal (weigh self.old.places self.old.count) 33554432 entry.code entry.weight }
-        ensures weights { let w = weigh self.old.places self.old.count in (c : ℕ)
-            → weigh self.new.places self.new.count c
-            ≡ put_bag (put_refused result) w entry.code entry.weight c }
+            ≡ put_refusal (entries_weight self.old) WIDE_RANGE entry.code entry.weight }
+        ensures weights { (c : ℕ) → entries_weight self.new c
+            ≡ put_bag (put_refused result) (entries_weight self.old) entry.code entry.weight c }
         ensures rising { Seat (take self.old.count self.old.places) entry.code (Err at)
             → Rising self.old.places self.old.count
             → Rising self.new.places self.new.count }

@@ -1,7 +1,8 @@
 //! The gate: entries in any order, and a rank found bit by bit.
 ghost use Rattle.std.specs.Prelude.{◌≡◌, ℕ, ◌<◌, ◌≤◌};
+ghost use Rattle.selectors.specs.declared.limits.TheConstants.{MOST_WEIGHT, WIDE_RANGE};
 ghost use Rattle.selectors.specs.Bag.{below, Ranked};
-ghost use Rattle.selectors.specs.Entries.{bag, under, weigh};
+ghost use Rattle.selectors.specs.Entries.{bag, under};
 ghost use Rattle.std.proofs.Common.{rules};
 
 use crate::entries::{Entries, Entry};
@@ -16,9 +17,11 @@ pub struct Gate {
 }
 
 impl Gate {
+    ghost use Rattle.selectors.specs.Weights.{gate_weight};
+
     /// A gate in which every weight is 0.
     pub fn new() -> Gate
-        ensures weights { (c : ℕ) → weigh result.entries.places result.entries.count c ≡ 0 }
+        ensures weights { (c : ℕ) → gate_weight result c ≡ 0 }
     {
         Gate {
             entries: Entries::new(),
@@ -26,10 +29,22 @@ impl Gate {
     }
 }
 
-impl Selector for Gate {
-    ghost range = { λ _. 33554432 };
+impl Default for Gate {
+    ghost use Rattle.selectors.specs.Weights.{gate_weight};
 
-    ghost weight = { λ s c. weigh s.entries.places s.entries.count c };
+    ghost is_default = { λ s. (c : ℕ) → gate_weight s c ≡ 0 };
+
+    fn default() -> Gate {
+        Gate::new()
+    }
+}
+
+impl Selector for Gate {
+    ghost use Rattle.selectors.specs.Weights.{gate_weight};
+
+    ghost range = { λ _. WIDE_RANGE };
+
+    ghost weight = { gate_weight };
 
     ghost ordered = { λ _. Unit {0} };
 
@@ -64,16 +79,19 @@ impl Selector for Gate {
     }
 }
 
-/// The code at this rank, bit by bit from the highest: `low` has the bits found with a 0 after them, and `left` is the rank among the codes that begin with the bits found.
+/// The code at this rank, bit by bit from the highest: `low` has the bits found with a 0 after them, and `left` is the
+/// rank among the codes that begin with the bits found.
 fn narrow(entries: &[Entry], rank: u32) -> u32
-    requires { (0 < rank) × ((rank ≤ below (bag entries.now) 33554432) × (below (bag entries.now) 33554432 ≤ 65535)) }
+    requires { let total = below (bag entries.now) WIDE_RANGE in
+        (0 < rank) × (rank ≤ total) × (total ≤ MOST_WEIGHT) }
     ensures { Ranked (bag entries.now) rank result }
 {
     let mut low = 0;
     let mut left = rank;
     for bit in (0..25u32).rev() {
         let mut lower = 0;
-        // A plain loop over all entries with no early stop: the gate's select is to take that form.
+        // All entries, with no early stop: a loop with no branch adds them up side by side, and a select takes as long
+        // whatever the weights are.
         for entry in entries {
             lower += weight_under(*entry, bit, low);
         }
@@ -87,7 +105,8 @@ fn narrow(entries: &[Entry], rank: u32) -> u32
     low / 2
 }
 
-/// The entry's weight where its code, down to this bit, is the prefix. A product in place of a branch lets the entries be added up side by side.
+/// The entry's weight where its code, down to this bit, is the prefix. A product in place of a branch lets the entries
+/// be added up side by side.
 fn weight_under(entry: Entry, bit: u32, prefix: u32) -> u32
     requires { bit < 25 }
     ensures { result ≡ under entry bit prefix }

@@ -1,5 +1,6 @@
 //! The histogram: one weight for each code below 512.
 ghost use Rattle.std.specs.Prelude.{◌≡◌, ℕ, length, slice_index};
+ghost use Rattle.selectors.specs.declared.histogram.TheConstants.{RANGE};
 ghost use Rattle.selectors.specs.Tally.{Tally};
 ghost use Rattle.std.proofs.Common.{rules};
 
@@ -7,22 +8,26 @@ use crate::limits::{MOST_CODES, heavier, ranked};
 use crate::refusals::{PutRefusal, SelectRefusal};
 use crate::selector::Selector;
 
-const RANGE: usize = 512;
+/// The codes are below this.
+pub const RANGE: usize = 512;
 
-/// A selector over the codes below 512 that keeps the weight of every code. The weights are a fixed array: the range bounds their number, and nothing here may allocate.
+/// A selector over the codes below 512 that keeps the weight of every code. The weights are a fixed array: the range
+/// bounds their number, and nothing here may allocate.
 #[derive(Clone, Copy)]
 pub struct Histogram {
     weights: [u16; RANGE],
     count: usize,
     sum: u32,
-    ghost size: { length weights ≡ 512 },
-    ghost tally: { Tally (λ c. slice_index weights c) 512 count sum },
+    ghost size: { length weights ≡ RANGE },
+    ghost tally: { Tally (λ c. slice_index weights c) RANGE count sum },
 }
 
 impl Histogram {
+    ghost use Rattle.selectors.specs.Weights.{histogram_weight};
+
     /// A histogram in which every weight is 0.
     pub fn new() -> Histogram
-        ensures weights { (c : ℕ) → slice_index result.weights c ≡ 0 }
+        ensures weights { (c : ℕ) → histogram_weight result c ≡ 0 }
     {
         Histogram {
             weights: [0; RANGE],
@@ -32,10 +37,22 @@ impl Histogram {
     }
 }
 
-impl Selector for Histogram {
-    ghost range = { λ _. 512 };
+impl Default for Histogram {
+    ghost use Rattle.selectors.specs.Weights.{histogram_weight};
 
-    ghost weight = { λ s c. slice_index s.weights c };
+    ghost is_default = { λ s. (c : ℕ) → histogram_weight s c ≡ 0 };
+
+    fn default() -> Histogram {
+        Histogram::new()
+    }
+}
+
+impl Selector for Histogram {
+    ghost use Rattle.selectors.specs.Weights.{histogram_weight};
+
+    ghost range = { λ _. RANGE };
+
+    ghost weight = { histogram_weight };
 
     ghost ordered = { λ _. Unit {0} };
 
@@ -74,9 +91,11 @@ impl Selector for Histogram {
     fn select(&self, rank: u32) -> Result<u32, SelectRefusal> {
         ranked(rank, self.sum)?;
         let mut code = 0;
-        // What the codes passed leave of the rank: at the first code that weighs as much, the running weight reaches it.
+        // What the codes passed leave of the rank: at the first code that weighs as much, the running weight
+        // reaches it.
         let mut left = rank;
-        // The histogram's select is to be a loop that yields the code by `break`.
+        // A loop that yields the code by `break`: with a range or an iterator it would also end past the last code,
+        // which the rank's being at most the total rules out.
         let chosen = loop {
             let weight = u32::from(self.weights[code]);
             if left <= weight {

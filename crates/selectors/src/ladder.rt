@@ -1,7 +1,8 @@
 //! The ladder: entries in rising order of their codes.
 ghost use Rattle.std.specs.Prelude.{◌≡◌, ℕ, ◌<◌, ◌≤◌, length};
+ghost use Rattle.selectors.specs.declared.limits.TheConstants.{WIDE_RANGE};
 ghost use Rattle.selectors.specs.Bag.{below, Ranked};
-ghost use Rattle.selectors.specs.Entries.{Rising, Seat, bag, weigh};
+ghost use Rattle.selectors.specs.Entries.{Rising, Seat, bag};
 ghost use Rattle.std.proofs.Common.{rules};
 
 use crate::entries::{Entries, Entry};
@@ -9,7 +10,8 @@ use crate::limits::{WIDE_RANGE, ranked};
 use crate::refusals::{PutRefusal, SelectRefusal};
 use crate::selector::Selector;
 
-/// A selector over the codes below 33,554,432 that keeps the codes that have weight in rising order. It differs from the gate in that fact, in how a code is found and in how one is selected.
+/// A selector over the codes below 33,554,432 that keeps the codes that have weight in rising order. It differs from
+/// the gate in that fact, in how a code is found and in how one is selected.
 #[derive(Clone, Copy)]
 pub struct Ladder {
     entries: Entries,
@@ -17,9 +19,11 @@ pub struct Ladder {
 }
 
 impl Ladder {
+    ghost use Rattle.selectors.specs.Weights.{ladder_weight};
+
     /// A ladder in which every weight is 0.
     pub fn new() -> Ladder
-        ensures weights { (c : ℕ) → weigh result.entries.places result.entries.count c ≡ 0 }
+        ensures weights { (c : ℕ) → ladder_weight result c ≡ 0 }
     {
         Ladder {
             entries: Entries::new(),
@@ -27,10 +31,22 @@ impl Ladder {
     }
 }
 
-impl Selector for Ladder {
-    ghost range = { λ _. 33554432 };
+impl Default for Ladder {
+    ghost use Rattle.selectors.specs.Weights.{ladder_weight};
 
-    ghost weight = { λ s c. weigh s.entries.places s.entries.count c };
+    ghost is_default = { λ s. (c : ℕ) → ladder_weight s c ≡ 0 };
+
+    fn default() -> Ladder {
+        Ladder::new()
+    }
+}
+
+impl Selector for Ladder {
+    ghost use Rattle.selectors.specs.Weights.{ladder_weight};
+
+    ghost range = { λ _. WIDE_RANGE };
+
+    ghost weight = { ladder_weight };
 
     ghost ordered = { λ _. Unit {0} };
 
@@ -69,7 +85,7 @@ fn seek(entries: &[Entry], code: u32) -> Result<usize, usize>
     requires { Rising entries.now (length entries.now) }
     ensures { Seat entries.now code result }
 {
-    // From the top: `binary_search_by_key` makes a put take 1.65 to 1.88 times as long as in plain C, this 0.8 to 1.2 times; 1.3 is the bar.
+    // From the top a put takes 0.8 to 1.2 times as long as in plain C; with `binary_search_by_key` 1.65 to 1.88 times.
     match entries.iter().rposition(|entry| entry.code <= code) {
         Some(at) if entries[at].code == code => Ok(at),
         Some(at) => Err(at + 1),
@@ -79,7 +95,8 @@ fn seek(entries: &[Entry], code: u32) -> Result<usize, usize>
 
 /// The code at this rank, from the lowest: `left` is the rank among the entries not yet passed.
 fn climb(entries: &[Entry], rank: u32) -> u32
-    requires { (Rising entries.now (length entries.now)) × ((0 < rank) × (rank ≤ below (bag entries.now) 33554432)) }
+    requires rising { Rising entries.now (length entries.now) }
+    requires rank { (0 < rank) × (rank ≤ below (bag entries.now) WIDE_RANGE) }
     ensures { Ranked (bag entries.now) rank result }
 {
     let mut left = rank;

@@ -1,5 +1,6 @@
 //! The limits of every selector, and the range of the gate and the ladder.
 ghost use Rattle.std.specs.Prelude.{◌≡◌, ◌+◌, ◌<◌, ◌≤◌, ◌⊎◌, MatchResult};
+ghost use Rattle.selectors.specs.declared.limits.TheConstants.{MOST_WEIGHT};
 ghost use Rattle.selectors.specs.Calls.{put_number, select_number};
 
 use crate::refusals::{PutRefusal, SelectRefusal};
@@ -15,9 +16,9 @@ pub const WIDE_RANGE: u32 = 33_554_432;
 
 /// The total with this amount more.
 pub fn heavier(sum: u32, amount: u32) -> Result<u32, PutRefusal>
-    requires { sum ≤ 65535 }
-    ensures { MatchResult result (λ t. (t ≡ sum + amount) × (t ≤ 65535))
-        (λ e. (put_number e ≡ 4) × (65535 < sum + amount)) }
+    requires { sum ≤ MOST_WEIGHT }
+    ensures { MatchResult result (λ t. (t ≡ sum + amount) × (t ≤ MOST_WEIGHT))
+        (λ e. (put_number e ≡ 4) × (MOST_WEIGHT < sum + amount)) }
 {
     if amount > MOST_WEIGHT - sum {
         return Err(PutRefusal::Heavy);

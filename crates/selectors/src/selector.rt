@@ -1,6 +1,7 @@
 //! The interface of every selector: what it means, and what each call does to that meaning.
 ghost use Rattle.std.specs.Prelude.{◌≡◌, ℕ, ◌≤◌};
 ghost use Rattle.selectors.specs.Bag.{below, held};
+ghost use Rattle.selectors.specs.declared.limits.TheConstants.{MOST_CODES, MOST_WEIGHT};
 ghost use Rattle.selectors.specs.Calls.{put_bag, put_refusal, put_refused, Selected};
 
 use crate::refusals::{PutRefusal, SelectRefusal};
@@ -48,8 +49,8 @@ pub trait Selector {
         ensures answer { Selected (weight self.now) (range self.now) rank result };
 
     /// The total is at most 65,535.
-    ghost light: { (s : Self) → ordered s → below (weight s) (range s) ≤ 65535 };
+    ghost light: { (s : Self) → ordered s → below (weight s) (range s) ≤ MOST_WEIGHT };
 
     /// At most 64 codes have weight.
-    ghost few: { (s : Self) → ordered s → held (weight s) (range s) ≤ 64 };
+    ghost few: { (s : Self) → ordered s → held (weight s) (range s) ≤ MOST_CODES };
 }

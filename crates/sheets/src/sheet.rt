@@ -27,7 +27,7 @@ pub struct Sheet {
     ghost matched: { length (listed areas) ≡ length (staged recipe) },
 }
 
-// The selector's two facts stand in each contract, as in `stages::pixels`; so does the room, since the memory is lent anew to each call.
+// The selector's two facts stand in each contract, as in `stages::window`; so does the room, since the memory is lent anew to each call.
 impl Sheet {
     ghost use Rattle.std.specs.Prelude.{ℕ, ◌+◌, ◌-◌, ◌<◌, List, IfSome, OnErr};
     ghost use Rattle.areas.specs.Areas.{dropped, last_area, lowest, met, next_of, stale_rows};

@@ -11,13 +11,14 @@ use Rattle.recipes.specs.Placed.{placed}
 use Rattle.recipes.specs.Places.{core, same, stands_at}
 use Rattle.recipes.proofs.Arrays.{length_placed}
 use Rattle.recipes.proofs.Elements.{centre, order_positive}
-use Rattle.selectors.specs.Bag.{below, held, Ranked}
+use Rattle.selectors.specs.Bag.{below, Ranked}
 use Rattle.selectors.specs.Calls.{Selected}
 use Rattle.selectors.specs.declared.refusals.SelectRefusal.{SelectRefusal}
 use Rattle.selectors.proofs.Sums.{below_at, below_cut, below_same, held_same}
 use Rattle.selectors.proofs.Ranks.{ranked_one}
 use Rattle.tones.specs.Kind.{Kind, Laws}
-use Rattle.stages.specs.Stages.{Picture, target, on_card, weight, inside, code_at, adds, window, bag, total, rank, cleaned, rank_of, ranked}
+use Rattle.stages.specs.Stages.{Picture, target, on_card, weight, inside, code_at, adds, window, bag, total, rank, cleaned, rank_of, ranked_code}
+use Rattle.stages.specs.Taps.{TakesOneMore}
 use Rattle.stages.proofs.Ranks.{ranked_is, rank_positive, rank_within, selected_ok}
 use Rattle.stages.proofs.Windows.{adds_own, window_has, window_most, window_few, window_within, weights_most}
 
@@ -36,9 +37,9 @@ target_origin Dilation x = let e : x + 0 ≡ x = omega arith in ap pos e
 pub on_card_origin : (o : Operation) (x n : ℕ) (d : ℤ) → d ≡ pos 0 → x < n → on_card n (target o x d) ≡ true
 on_card_origin o x n d e h = ap (λ z. on_card n (target o x z)) e ∙ ap (on_card n) (target_origin o x) ∙ lt-ltb x n h
 
--- a window whose places are not all in yet leaves room
-pub room : {T R : Type 0} (K : Kind T R) (size : Size) (s : Stage) (f : Picture T) (x y : ℕ) (w : ℕ → ℕ) (i n : ℕ) → i < length (placed s.element) → ((c : ℕ) → w c ≡ window K size s f x y (take i (placed s.element)) c) → (held w n ≤ 48) × (below w n ≤ 2400)
-room K size s f x y w i n h is =
+-- a window whose places are not all in yet leaves room for one more
+pub takes_one_more : {T R : Type 0} (K : Kind T R) (size : Size) (s : Stage) (f : Picture T) (x y : ℕ) (w : ℕ → ℕ) (i n : ℕ) → i < length (placed s.element) → ((c : ℕ) → w c ≡ window K size s f x y (take i (placed s.element)) c) → TakesOneMore w n
+takes_one_more K size s f x y w i n h is =
     let e = s.element in
     let ps = take i (placed e) in
     let long : length ps ≤ 48 = omega (arith, length-take i (placed e), h, length_placed e, e.within) in
@@ -91,7 +92,7 @@ module _ {T R : Type 0} (K : Kind T R) (law : Laws K) (size : Size) (s : Stage) 
       ranked_cleaned c h =
           let b = bag K size s f x y in
           let mine : Ranked b (rank K size s f x y) c = subst (λ v. Ranked v (rank K size s f x y) c) (fun_ext is) (subst (λ q. Ranked w q c) rank_is h) in
-          ap K.tone (ranked_one b (rank K size s f x y) c (ranked b (rank K size s f x y) K.count) mine (ranked_is b (rank K size s f x y) K.count rank_some rank_most).0)
+          ap K.tone (ranked_one b (rank K size s f x y) c (ranked_code b (rank K size s f x y) K.count) mine (ranked_is b (rank K size s f x y) K.count rank_some rank_most).0)
 
       -- so it does not refuse the rank, and answers the code of the pixel's tone
       pub rank_selected : (a : Result ℕ SelectRefusal) → Selected w n r a → is_ok a ≡ true

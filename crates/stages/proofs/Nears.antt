@@ -9,7 +9,7 @@ use Rattle.recipes.specs.Placed.{placed}
 use Rattle.recipes.specs.Places.{origin}
 use Rattle.recipes.proofs.Elements.{place_limited}
 use Rattle.stages.specs.Stages.{on_card}
-use Rattle.stages.specs.Taps.{Flat, Inner, Near, tap_of, turned}
+use Rattle.stages.specs.Taps.{IsFlat, IsInner, IsNear, tap_of, turned}
 
 -- a coordinate at least 3 from both ends, moved by at most 3
 within : (n x : ℕ) (d : ℤ) → 3 ≤ x → x + 3 < n → unsigned_abs d ≤ 3 → on_card n (pos x +ℤ d) ≡ true
@@ -32,7 +32,7 @@ turned_none : (o : Operation) (a : ℤ) → a ≡ pos 0 → turned o a ≡ pos 0
 turned_none Erosion a none = none
 turned_none Dilation a none = ap neg_ℤ none
 
-pub near_tap : (size : Size) (s : Stage) (x y i : ℕ) → i < length (placed s.element) → Flat s.element → Inner size x y → Near size x y (tap_of s (get_or (placed s.element) i origin))
+pub near_tap : (size : Size) (s : Stage) (x y i : ℕ) → i < length (placed s.element) → IsFlat s.element → IsInner size x y → IsNear size x y (tap_of s (get_or (placed s.element) i origin))
 near_tap size s x y i h flat (left, right, top, bottom) =
     let p = get_or (placed s.element) i origin in
     let limits = place_limited s.element i origin h in (

@@ -8,7 +8,7 @@ use Rattle.recipes.specs.declared.recipe.Stage.{Stage}
 use Rattle.recipes.specs.Placed.{placed}
 use Rattle.selectors.specs.Bag.{below}
 use Rattle.tones.specs.Kind.{Kind}
-use Rattle.stages.specs.Stages.{Picture, target, on_card, weight, shifted, inside, read, adds, window, bag, rank_of, ranked, cleaned}
+use Rattle.stages.specs.Stages.{Picture, target, on_card, weight, shifted, inside, read, adds, window, bag, rank_of, ranked_code, cleaned}
 use Rattle.stages.proofs.Windows.{on_card_less}
 
 -- two pictures have the same tones on the card
@@ -36,4 +36,4 @@ module _ {T R : Type 0} (K : Kind T R) (size : Size) (s : Stage) (f g : Picture 
 
   pub cleaned_same : cleaned K size s f x y ≡ cleaned K size s g x y
   unfolding cleaned
-  cleaned_same = ap (λ b. K.tone (ranked b (rank_of s.operation s.element.order (below b K.count)) K.count)) (fun_ext bag_same)
+  cleaned_same = ap (λ b. K.tone (ranked_code b (rank_of s.operation s.element.order (below b K.count)) K.count)) (fun_ext bag_same)

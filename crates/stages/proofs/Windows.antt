@@ -13,7 +13,7 @@ use Rattle.recipes.proofs.Elements.{order_few}
 use Rattle.selectors.specs.Bag.{below, held}
 use Rattle.selectors.proofs.Sums.{held_none, below_none}
 use Rattle.tones.specs.Kind.{Kind, Laws}
-use Rattle.stages.specs.Stages.{Picture, target, on_card, weight, inside, code_at, adds, window, bag, cleaned, rank_of, ranked}
+use Rattle.stages.specs.Stages.{Picture, target, on_card, weight, inside, code_at, adds, window, bag, cleaned, rank_of, ranked_code}
 use Rattle.stages.proofs.Sums.{below_sum, below_one, held_one}
 
 -- a column that is on the card is below the width

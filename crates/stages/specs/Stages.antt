@@ -39,19 +39,22 @@ rank_of Erosion k total = k
 rank_of Dilation k total = suc (total - k)
 
 -- the least of the codes below n such that the codes up to it weigh at least r together
-unfoldable pub ranked : (ℕ → ℕ) → ℕ → ℕ → ℕ
-ranked w r zero = 0
-ranked w r (suc n) = cond (nat_le r (below w n)) (ranked w r n) n
+unfoldable pub ranked_code : (ℕ → ℕ) → ℕ → ℕ → ℕ
+ranked_code w r zero = 0
+ranked_code w r (suc n) = cond (nat_le r (below w n)) (ranked_code w r n) n
 
 -- the window of the pixel (x, y) of a picture f on a card of that size
 module _ {T R : Type 0} (K : Kind T R) (size : Size) (s : Stage) (f : Picture T) (x y : ℕ) where
   -- a place falls on the card
   abbrev pub inside : Place → Bool
-  inside p = on_card size.width (target s.operation x p.dx) && on_card size.height (target s.operation y p.dy)
+  inside p =
+      on_card size.width (target s.operation x p.dx)
+      && on_card size.height (target s.operation y p.dy)
 
   -- the tone that a place reads
   abbrev pub read : Place → T
-  read p = f (unsigned_abs (target s.operation x p.dx)) (unsigned_abs (target s.operation y p.dy))
+  read p =
+      f (unsigned_abs (target s.operation x p.dx)) (unsigned_abs (target s.operation y p.dy))
 
   -- the code of that tone, lowered or raised
   abbrev pub code_at : Place → ℕ
@@ -78,9 +81,10 @@ module _ {T R : Type 0} (K : Kind T R) (size : Size) (s : Stage) (f : Picture T)
 
   -- what the stage makes of the pixel
   unfoldable pub cleaned : T
-  cleaned = K.tone (ranked bag rank K.count)
+  cleaned = K.tone (ranked_code bag rank K.count)
 
--- what a list of stages makes of a picture, the first of the raw picture, each later one of what the one before made
+-- what a list of stages makes of a picture, the first of the raw picture, each later one of what
+-- the one before made
 unfoldable pub made : {T R : Type 0} → Kind T R → Size → List Stage → Picture T → Picture T
 made K size [] f = f
 made K size (s ∷ ss) f = made K size ss (λ x y. cleaned K size s f x y)

@@ -1,5 +1,6 @@
--- A window prepared for its stage: each place turned into a tap, by which an erosion reads. Assumes nothing.
-use Rattle.std.specs.Prelude.{◌≡◌, ℕ, ◌+◌, ◌<◌, ◌≤◌, true, cond, ◌&&◌, length, ℤ, pos, ◌+ℤ◌, neg_ℤ, Some, None, Option, ◌==◌, unsigned_abs, slice_index_or}
+-- A window prepared for its stage: each place turned into a tap, by which an erosion reads. Assumes
+-- nothing.
+use Rattle.std.specs.Prelude.{◌≡◌, ℕ, ◌+◌, ◌<◌, ◌≤◌, Bool, true, cond, ◌&&◌, length, ℤ, pos, ◌+ℤ◌, neg_ℤ, Some, None, Option, ◌==◌, unsigned_abs, slice_index_or}
 use Rattle.planes.specs.declared.size.Size.{Size}
 use Rattle.recipes.specs.Placed.{placed}
 use Rattle.recipes.specs.Places.{origin}
@@ -32,31 +33,44 @@ tap_of s p =
 abbrev pub reached : ℕ → ℤ → ℕ → Option ℕ
 reached x d n = cond (on_card n (pos x +ℤ d)) (Some (unsigned_abs (pos x +ℤ d))) None
 
+-- a tap falls on the card at the pixel (x, y)
+abbrev pub tap_inside : Size → ℕ → ℕ → Tap → Bool
+tap_inside size x y t =
+    on_card size.width (pos x +ℤ t.dx) && on_card size.height (pos y +ℤ t.dy)
+
 module _ {T R : Type 0} (K : Kind T R) (size : Size) (f : Picture T) (x y : ℕ) where
-  -- the code that a tap reads at the pixel (x, y) of a picture
+  -- the tone that a tap finds at the pixel (x, y) of a picture
+  abbrev pub tap_finds : Tap → T
+  tap_finds t = f (unsigned_abs (pos x +ℤ t.dx)) (unsigned_abs (pos y +ℤ t.dy))
+
+  -- the code of that tone, lowered
   abbrev pub tap_code : Tap → ℕ
-  tap_code t = K.code (K.lowered (f (unsigned_abs (pos x +ℤ t.dx)) (unsigned_abs (pos y +ℤ t.dy))) t.amount)
+  tap_code t = K.code (K.lowered (tap_finds t) t.amount)
 
   -- that code, where the tap falls on the card
   abbrev pub tap_reads : Tap → Option ℕ
-  tap_reads t = cond (on_card size.width (pos x +ℤ t.dx) && on_card size.height (pos y +ℤ t.dy)) (Some (tap_code t)) None
+  tap_reads t = cond (tap_inside size x y t) (Some (tap_code t)) None
 
   -- what a tap adds to the weight of the code c
   abbrev pub tap_adds : Tap → ℕ → ℕ
-  tap_adds t c = cond ((on_card size.width (pos x +ℤ t.dx) && on_card size.height (pos y +ℤ t.dy)) && tap_code t == c) t.weight 0
+  tap_adds t c = cond (tap_inside size x y t && tap_code t == c) t.weight 0
 
--- a selector of range n has room for one place more: at most 48 places of at most 49 each are in
-abbrev pub Room : (ℕ → ℕ) → ℕ → Type 0
-Room w n = (held w n ≤ 48) × (below w n ≤ 2400)
+-- a selector of range n takes one place more: at most 48 places of at most 49 each are in
+abbrev pub TakesOneMore : (ℕ → ℕ) → ℕ → Type 0
+TakesOneMore w n = (held w n ≤ 48) × (below w n ≤ 2400)
 
 -- no place of an element has an amount
-abbrev pub Flat : Element → Type 0
-Flat e = (i : ℕ) → i < length (placed e) → (slice_index_or (placed e) i origin).amount ≡ pos 0
+abbrev pub IsFlat : Element → Type 0
+IsFlat e =
+    (i : ℕ) → i < length (placed e) → (slice_index_or (placed e) i origin).amount ≡ pos 0
 
 -- a pixel is so far from every edge of its card that no place reaches past one
-abbrev pub Inner : Size → ℕ → ℕ → Type 0
-Inner size x y = (3 ≤ x) × (x + 3 < size.width) × (3 ≤ y) × (y + 3 < size.height)
+abbrev pub IsInner : Size → ℕ → ℕ → Type 0
+IsInner size x y = (3 ≤ x) × (x + 3 < size.width) × (3 ≤ y) × (y + 3 < size.height)
 
 -- a tap falls on the card and lowers nothing
-abbrev pub Near : Size → ℕ → ℕ → Tap → Type 0
-Near size x y t = (on_card size.width (pos x +ℤ t.dx) ≡ true) × (on_card size.height (pos y +ℤ t.dy) ≡ true) × (t.amount ≡ pos 0)
+abbrev pub IsNear : Size → ℕ → ℕ → Tap → Type 0
+IsNear size x y t =
+    (on_card size.width (pos x +ℤ t.dx) ≡ true)
+    × (on_card size.height (pos y +ℤ t.dy) ≡ true)
+    × (t.amount ≡ pos 0)

@@ -3,10 +3,13 @@
 #![tactic(auto)]
 
 pub mod pass;
-pub mod pixels;
-pub mod rows;
 pub mod site;
 pub mod taps;
 #[cfg(test)]
 mod tests;
 pub mod window;
+
+pub use pass::Pass;
+pub use site::Site;
+pub use taps::Tap;
+pub use window::Window;

@@ -1,9 +1,8 @@
 //! A pixel of a plane, and what a tap reads there.
 
-ghost use Rattle.std.specs.Prelude.{◌≡◌, ◌<◌, ◌≤◌, true, length, Some};
+ghost use Rattle.std.specs.Prelude.{◌≡◌, ◌<◌, ◌≤◌, length};
 ghost use Rattle.planes.specs.Sizes.{area};
-ghost use Rattle.stages.specs.Planes.{picture};
-ghost use Rattle.stages.specs.Taps.{Inner, Near, reached, tap_reads};
+ghost use Rattle.stages.specs.Taps.{reached};
 
 use crate::taps::Tap;
 use planes::frame::Frame;
@@ -23,6 +22,10 @@ pub struct Site<'a, T: Tone> {
 }
 
 impl<'a, T: Tone> Site<'a, T> {
+    ghost use Rattle.std.specs.Prelude.{true, Some};
+    ghost use Rattle.stages.specs.Sites.{read_at};
+    ghost use Rattle.stages.specs.Taps.{IsInner, IsNear};
+
     /// The pixel in column x and row y of a plane.
     pub fn new(frame: Frame, plane: &'a [T::Row], x: usize, y: usize) -> Self
         requires plane { length plane.now ≡ area frame.size }
@@ -37,7 +40,7 @@ impl<'a, T: Tone> Site<'a, T> {
 
     /// The code that a tap reads, if that lies on the card.
     pub(crate) fn code_at(&self, tap: &Tap) -> Option<u32>
-        ensures { result ≡ tap_reads T.Tone.kind self.now.frame.size (picture T.Tone.kind self.now.frame.size 0 self.now.plane.now) self.now.x self.now.y tap.now }
+        ensures { result ≡ read_at self.now tap.now }
     {
         let column = reached(self.x, tap.dx, self.frame.size.width)?;
         let row = reached(self.y, tap.dy, self.frame.size.height)?;
@@ -47,8 +50,8 @@ impl<'a, T: Tone> Site<'a, T> {
 
     /// The code that a tap reads which falls on the card and lowers nothing.
     pub(crate) fn code_near(&self, tap: &Tap) -> u32
-        requires { Near self.now.frame.size self.now.x self.now.y tap.now }
-        ensures { Some result ≡ tap_reads T.Tone.kind self.now.frame.size (picture T.Tone.kind self.now.frame.size 0 self.now.plane.now) self.now.x self.now.y tap.now }
+        requires { IsNear self.now.frame.size self.now.x self.now.y tap.now }
+        ensures { Some result ≡ read_at self.now tap.now }
     {
         let column = self.x.wrapping_add_signed(tap.dx);
         let row = self.y.wrapping_add_signed(tap.dy);
@@ -57,7 +60,7 @@ impl<'a, T: Tone> Site<'a, T> {
 
     /// That the pixel is so far from every edge of the card that no place reaches past one.
     pub(crate) fn is_inner(&self) -> bool
-        ensures { result ≡ true → Inner self.now.frame.size self.now.x self.now.y }
+        ensures { result ≡ true → IsInner self.now.frame.size self.now.x self.now.y }
     {
         let Size { width, height } = self.frame.size;
         (3..width.saturating_sub(3)).contains(&self.x)

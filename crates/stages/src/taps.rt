@@ -1,13 +1,14 @@
 //! A place of an element, turned for its stage.
 
 ghost use Rattle.std.specs.Prelude.{◌≡◌, ◌≤◌, neg_ℤ, unsigned_abs};
-ghost use Rattle.recipes.specs.Places.{Limits};
+ghost use Rattle.recipes.specs.Places.{IsLimited};
 ghost use Rattle.stages.specs.Taps.{tap_of};
 
 use recipes::places::{Part, Place};
 use recipes::recipe::{Operation, Stage};
 
-/// Where a pixel's window reads, how much that weighs, and by how much it is lowered. A dilation reads as an erosion whose offsets and amounts are turned round.
+/// Where a pixel's window reads, how much that weighs, and by how much it is lowered. A dilation
+/// reads as an erosion whose offsets and amounts are turned round.
 #[derive(Clone, Copy)]
 pub struct Tap {
     pub dx: isize,
@@ -19,7 +20,7 @@ pub struct Tap {
 impl Tap {
     /// The tap of a place of a stage: a core place weighs the order index, a soft one 1.
     pub fn of(stage: &Stage, place: &Place) -> Tap
-        requires { Limits place.now }
+        requires { IsLimited place.now }
         ensures { result ≡ tap_of stage.now place.now }
     {
         let order = stage.element.order_index();

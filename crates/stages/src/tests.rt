@@ -89,7 +89,8 @@ fn an_element_to_one_side(rt: HostRuntime) {
     );
 }
 
-/// A lone light pixel in the middle of a card, far enough from every edge that its window is read without tests.
+/// A lone light pixel in the middle of a card, far enough from every edge that its window is read
+/// without tests.
 fn speck_made(element: Element) -> [u8; 162] {
     let frame = Frame::new(Size {
         width: 9,

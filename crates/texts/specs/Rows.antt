@@ -7,7 +7,7 @@ use Rattle.lines.specs.Words.{Rest, Read, Natural, Integer, word}
 use Rattle.lines.specs.declared.answers.Fault.{Fault}
 use Rattle.lines.specs.declared.answers.Fault.TheVariants.{Unknown, Memory}
 use Rattle.std.specs.declared.alloc.AllocError.{AllocError}
-use Rattle.tones.specs.declared.kinds.ColourRow.{ColourRow}
+use Rattle.tones.specs.declared.colours.ColourRow.{ColourRow}
 
 -- words write a mark, 0 or 1
 abbrev pub MarkWritten : Rest → Bool → Type 0

@@ -9,7 +9,8 @@ use std::alloc::{AllocError, Global};
 
 /// The rows that the words write; not read where one of them cannot be.
 pub fn rows_read<T: Rows>(heap: Global, words: &[&str]) -> Result<Vec<T::Row>, Fault>
-    ensures { MatchResult result (λ rows. RowsWritten T.Rows.written words.now rows.items) (NotRead (RowsWritten T.Rows.written words.now)) }
+    ensures { let Written = RowsWritten T.Rows.scripted.written words.now in
+        MatchResult result (λ rows. Written rows.items) (NotRead Written) }
 {
     let mut rows = Vec::new(heap);
     // A loop: of a `try_collect` a proof does not know enough to say what was read.
@@ -22,7 +23,7 @@ pub fn rows_read<T: Rows>(heap: Global, words: &[&str]) -> Result<Vec<T::Row>, F
 
 /// The numbers of the rows, each after a space.
 pub fn rows_shown<T: Rows>(heap: Global, rows: &[T::Row]) -> Result<String, AllocError>
-    ensures { IfOk result (λ text. string_bytes text ≡ rows_text T.Rows.shown rows.now) }
+    ensures { IfOk result (λ text. string_bytes text ≡ rows_text T.Rows.scripted.shown rows.now) }
 {
     let mut text = String::new(heap);
     for row in rows {

@@ -1,12 +1,11 @@
 //! How the rows of each kind of tones are read and printed, and what only greys can do.
 
-ghost use Rattle.std.specs.Prelude.{◌≡◌, ◌≢◌, ◌++◌, ℕ, ℤ, List, Option, Result, IfOk, MatchResult, string_bytes};
-ghost use Rattle.calls.specs.Calls.{Notes, State};
+ghost use Rattle.std.specs.Prelude.{◌≡◌, ◌≢◌, ◌++◌, IfOk, MatchResult, string_bytes};
 ghost use Rattle.cards.specs.Meanings.{InOrder, notes, state_of};
-ghost use Rattle.lines.specs.Words.{ReadsAll, Rest};
-ghost use Rattle.lines.specs.declared.answers.Fault.{Fault as Refused};
+ghost use Rattle.lines.specs.Words.{ReadsAll};
 ghost use Rattle.std.proofs.Common.{rules};
 ghost use Rattle.texts.specs.Cards.{GreyLoad, GreyResidue, NoLoad, NoResidue};
+ghost use Rattle.texts.specs.Scripted.{Scripted};
 ghost use Rattle.texts.specs.Rows.{ColourWritten, GreyWritten, HasParts, MarkWritten, ReadsOnly, ReliefWritten, colour_shown, mark_shown, relief_shown, spaced};
 
 use cards::card::Card;
@@ -20,36 +19,25 @@ use tones::{Colour, ColourRow, Grey, Mark, Relief, Tone, ToneRefusal};
 
 /// A kind of tones whose rows can be written in a script. The row by default has the numbers 0.
 pub trait Rows: Tone<Row: Default> {
-    /// Words write a row.
-    ghost written: { Rest → Self.Row → Type 0 };
-
-    /// How many numbers a row has.
-    ghost count: { ℕ };
-
-    /// The text that shows a row: its numbers, each after a space.
-    ghost shown: { Self.Row → List ℕ };
-
-    /// What a residue of a card answers, and what it leaves in the reliefs.
-    ghost residues: { Option Notes → List Self.Row → List ℤ → Result (Unit {0}) Refused → List ℤ → Type 0 };
-
-    /// What a load of a file answers, and the card and the memory that it leaves.
-    ghost loads: { State Self.Row → ℕ → ℕ → List ℕ → Result (Unit {0}) Refused → State Self.Row → Type 0 };
+    /// What the kind is in scripts: how its rows are written and shown, and what only greys can do.
+    ghost scripted: { Scripted Self.Row };
 
     /// How many numbers a row has. No constant, since a law cannot say that a trait's constant is above 0.
     fn parts() -> usize
-        ensures { result ≡ count };
+        ensures { result ≡ scripted.count };
 
     /// The row that the words write; none where they are too many, too few or no numbers of its parts.
     fn read(words: &[&str]) -> Option<Self::Row>
-        ensures { ReadsAll (written words.now) result };
+        ensures { ReadsAll (scripted.written words.now) result };
 
     /// Adds the numbers of the row to a text, each after a space.
     fn show(row: Self::Row, text: &mut String) -> Result<(), AllocError>
-        ensures { IfOk result (λ _. string_bytes text.new ≡ string_bytes text.old ++ shown row) };
+        ensures { IfOk result (λ _. string_bytes text.new ≡ string_bytes text.old ++ scripted.shown row) };
 
     /// The tone of these parts; refused outside the limits.
     fn make(row: Self::Row) -> Result<Self, ToneRefusal>
-        ensures { MatchResult result (λ t. Self.Tone.kind.row t ≡ row) (λ _. (t : Self) → Self.Tone.kind.row t ≢ row) };
+        ensures { MatchResult result (λ t. Self.Tone.kind.row t ≡ row)
+            (λ _. (t : Self) → Self.Tone.kind.row t ≢ row) };
 
     /// Writes raw minus finished of a card into the reliefs; not read where the kind has no residues.
     fn residue<S: Selector>(
@@ -57,7 +45,7 @@ pub trait Rows: Tone<Row: Default> {
         memory: &[Self::Row],
         reliefs: &mut [i16],
     ) -> Result<(), Fault>
-        ensures { residues (notes card.now) memory.now reliefs.old result reliefs.new };
+        ensures { scripted.residues (notes card.now) memory.now reliefs.old result reliefs.new };
 
     /// Patches a card with a file; not read where the kind has no files.
     fn load<S: Selector>(
@@ -67,23 +55,17 @@ pub trait Rows: Tone<Row: Default> {
         y: usize,
         file: &[u8],
     ) -> Result<(), Fault>
-        ensures outcome { loads (state_of S.Selector.weight card.old memory.old) x y file.now result (state_of S.Selector.weight card.new memory.new) }
-        ensures in_order { InOrder Self.Tone.kind S.Selector.range S.Selector.ordered card.old → InOrder Self.Tone.kind S.Selector.range S.Selector.ordered card.new };
+        ensures outcome { let before = state_of S.Selector.weight card.old memory.old in
+            scripted.loads before x y file.now result (state_of S.Selector.weight card.new memory.new) }
+        ensures in_order { InOrder Self.Tone.kind S.Selector.range S.Selector.ordered card.old
+            → InOrder Self.Tone.kind S.Selector.range S.Selector.ordered card.new };
 
     /// Words that write a row are as many as it has numbers, at least one.
-    ghost sized: { HasParts written count };
+    ghost sized: { HasParts scripted.written scripted.count };
 }
 
 impl Rows for Mark {
-    ghost written = { MarkWritten };
-
-    ghost count = { 1 };
-
-    ghost shown = { mark_shown };
-
-    ghost residues = { NoResidue };
-
-    ghost loads = { NoLoad };
+    ghost scripted = { record { written = MarkWritten; count = 1; shown = mark_shown; residues = NoResidue; loads = NoLoad } };
 
     ghost sized = { Prim.search rules };
 
@@ -139,15 +121,7 @@ where
 }
 
 impl Rows for Grey {
-    ghost written = { GreyWritten };
-
-    ghost count = { 1 };
-
-    ghost shown = { spaced };
-
-    ghost residues = { GreyResidue };
-
-    ghost loads = { GreyLoad };
+    ghost scripted = { record { written = GreyWritten; count = 1; shown = spaced; residues = GreyResidue; loads = GreyLoad } };
 
     ghost sized = { Prim.search rules };
 
@@ -187,15 +161,7 @@ impl Rows for Grey {
 }
 
 impl Rows for Relief {
-    ghost written = { ReliefWritten };
-
-    ghost count = { 1 };
-
-    ghost shown = { relief_shown };
-
-    ghost residues = { NoResidue };
-
-    ghost loads = { NoLoad };
+    ghost scripted = { record { written = ReliefWritten; count = 1; shown = relief_shown; residues = NoResidue; loads = NoLoad } };
 
     ghost sized = { Prim.search rules };
 
@@ -235,15 +201,7 @@ impl Rows for Relief {
 }
 
 impl Rows for Colour {
-    ghost written = { ColourWritten };
-
-    ghost count = { 3 };
-
-    ghost shown = { colour_shown };
-
-    ghost residues = { NoResidue };
-
-    ghost loads = { NoLoad };
+    ghost scripted = { record { written = ColourWritten; count = 3; shown = colour_shown; residues = NoResidue; loads = NoLoad } };
 
     ghost sized = { Prim.search rules };
 

@@ -7,21 +7,23 @@ use Rattle.tones.specs.Codes.{whole_by_codes}
 use Rattle.tones.specs.Kind.{Laws}
 use Rattle.tones.specs.Spans.{outside_top}
 use Rattle.tones.specs.Whole.{WholeNumbers}
-use Rattle.tones.specs.Colours.{colour, colour_value, colours, lawful, parts, top}
-use Rattle.tones.specs.declared.kinds.Colour.{Colour}
-use Rattle.tones.specs.declared.kinds.ColourRow.{ColourRow}
-use Rattle.tones.specs.contracts.kinds.Colour.{struct, the_propositions}
+use Rattle.tones.specs.Colours.{colour, colour_value, colours, is_colour_row, parts, top}
+use Rattle.tones.specs.declared.colours.Colour.{Colour}
+use Rattle.tones.specs.declared.colours.ColourRow.{ColourRow}
+use Rattle.tones.specs.contracts.colours.Colour.{struct, the_propositions}
 
 -- a colour is its parts
 pub same_colour : (t u : Colour) → colours.row t ≡ colours.row u → t ≡ u
-same_colour t u e = values_one struct the_propositions t u (ap (λ r. (r.hue, (r.saturation, (r.brightness, tt)))) e)
+same_colour t u e =
+    values_one struct the_propositions t u
+    (ap (λ r. (r.hue, (r.saturation, (r.brightness, tt)))) e)
 
 -- the colour of a row's parts
 abbrev read : ColourRow → Colour
 read r = colour r.hue r.saturation r.brightness
 
--- lawful parts are those of the colour read from them
-read_back : (r : ColourRow) → lawful r ≡ true → colours.row (read r) ≡ r
+-- parts within the limits are those of the colour read from them
+read_back : (r : ColourRow) → is_colour_row r ≡ true → colours.row (read r) ≡ r
 read_back r e =
     let h : min r.hue 359 ≡ r.hue = grind (arith, nat_tests) in
     let s : min r.saturation 255 ≡ r.saturation = grind (arith, nat_tests) in
@@ -43,7 +45,7 @@ colour_laws = record {
   beyond = λ t a h. refl;
   keeps = λ t u a h. h;
   laid = λ t. same_colour (colours.counted (colours.row t)) t (grind (arith, nat_tests, t.within));
-  outside = outside_top colours.row lawful read top read_back;
+  outside = outside_top colours.row is_colour_row read top read_back;
 }
 
 pub colour_whole : WholeNumbers colours (pos 0) (pos 23592959) colour_value

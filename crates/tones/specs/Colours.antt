@@ -1,18 +1,24 @@
--- The kind of colours: ranked by brightness, then falling saturation, then hue; no amount lowers one. Assumes nothing.
+-- The kind of colours: ranked by brightness, then falling saturation, then hue; no amount lowers
+-- one. Assumes nothing.
 use Rattle.std.specs.Prelude.{◌≡◌, ℕ, ◌+◌, ◌-◌, ◌*◌, ◌/◌, ◌%◌, ◌<◌, min, Bool, false, cond, ◌&&◌, ◌⊎◌, ◌↔◌, ℤ, pos, Result, MatchResult, nat_lt}
 use Rattle.std.proofs.Common.{arith}
 use Rattle.tones.specs.Kind.{Kind}
 use Rattle.tones.specs.Refusals.{refusal_number}
-use Rattle.tones.specs.declared.kinds.Colour.{Colour}
-use Rattle.tones.specs.declared.kinds.ColourRow.{ColourRow}
+use Rattle.tones.specs.declared.colours.Colour.{Colour}
+use Rattle.tones.specs.declared.colours.ColourRow.{ColourRow}
 use Rattle.tones.specs.declared.refusals.ToneRefusal.{ToneRefusal}
 
-pub held_parts : (h s v : ℕ) → (min h 359 < 360) × (min s 255 < 256) × (min v 255 < 256)
-held_parts h s v = (omega arith, omega arith, omega arith)
+pub parts_within : (h s v : ℕ) → (min h 359 < 360) × (min s 255 < 256) × (min v 255 < 256)
+parts_within h s v = (omega arith, omega arith, omega arith)
 
 -- the colour of three parts, each held to its limit
 abbrev pub colour : ℕ → ℕ → ℕ → Colour
-colour h s v = record { hue = min h 359; saturation = min s 255; brightness = min v 255; within = held_parts h s v }
+colour h s v = record {
+  hue = min h 359;
+  saturation = min s 255;
+  brightness = min v 255;
+  within = parts_within h s v;
+}
 
 -- the top tone
 abbrev pub top : Colour
@@ -30,8 +36,8 @@ abbrev pub parts : ℕ → ℕ → ℕ → ColourRow
 parts h s v = record { hue = h; saturation = s; brightness = v }
 
 -- whether a row's parts are within a colour's limits
-abbrev pub lawful : ColourRow → Bool
-lawful r = nat_lt r.hue 360 && (nat_lt r.saturation 256 && nat_lt r.brightness 256)
+abbrev pub is_colour_row : ColourRow → Bool
+is_colour_row r = nat_lt r.hue 360 && (nat_lt r.saturation 256 && nat_lt r.brightness 256)
 
 abbrev pub colours : Kind Colour ColourRow
 colours = record {
@@ -41,12 +47,16 @@ colours = record {
   tone = λ c. cond (nat_lt c 23592960) (colour (c % 360) (255 - c / 360 % 256) (c / 360 / 256)) top;
   lowered = λ t _. t;
   row = λ t. parts t.hue t.saturation t.brightness;
-  counted = λ r. cond (lawful r) (colour r.hue r.saturation r.brightness) top;
+  counted = λ r. cond (is_colour_row r) (colour r.hue r.saturation r.brightness) top;
 }
 
--- making a colour: lawful parts give the colour of those parts, any others are refused with 1
+-- making a colour: parts within the limits give the colour of those parts, any others are refused
+-- with 1
 abbrev pub Making : ColourRow → Result Colour ToneRefusal → Type 0
-Making p r = MatchResult r (λ t. colours.row t ≡ p) (λ e. (refusal_number e ≡ 1) × (lawful p ≡ false))
+Making p r =
+    MatchResult r
+    (λ t. colours.row t ≡ p)
+    (λ e. (refusal_number e ≡ 1) × (is_colour_row p ≡ false))
 
 -- darker first, then more saturated, then smaller hue
 abbrev pub Darker : Colour → Colour → Type 0

@@ -1,16 +1,17 @@
--- The kind of greys: 0 to 255, each its own code; lowered by t - a, held to 0..255. Assumes nothing.
+-- The kind of greys: 0 to 255, each its own code; lowered by t - a, held to 0..255.
+-- Assumes nothing.
 use Rattle.std.specs.Prelude.{ℕ, ◌<◌, ℤ, pos, ◌-ℤ◌, unsigned_abs}
 use Rattle.std.proofs.Common.{arith}
 use Rattle.std.proofs.lemmas.Int.{ints, clamps}
-use Rattle.tones.specs.Kind.{Kind, held, spanned}
-use Rattle.tones.specs.declared.kinds.Grey.{Grey}
+use Rattle.tones.specs.Kind.{Kind, nearest, lowered_within}
+use Rattle.tones.specs.declared.greys.Grey.{Grey}
 
-pub held_level : (z : ℤ) → unsigned_abs (held (pos 0) (pos 255) z) < 256
-held_level z = omega (arith, ints, clamps)
+pub level_within : (z : ℤ) → unsigned_abs (nearest (pos 0) (pos 255) z) < 256
+level_within z = omega (arith, ints, clamps)
 
 -- the grey of a whole number held to 0..255
 abbrev pub grey : ℤ → Grey
-grey z = record { level = unsigned_abs (held (pos 0) (pos 255) z); within = held_level z }
+grey z = record { level = unsigned_abs (nearest (pos 0) (pos 255) z); within = level_within z }
 
 -- the whole number that a grey stands for
 abbrev pub grey_value : Grey → ℤ
@@ -26,7 +27,7 @@ greys = record {
   span = 255;
   code = λ t. t.level;
   tone = λ c. grey (pos c);
-  lowered = spanned 255 grey_less;
+  lowered = lowered_within 255 grey_less;
   row = λ t. t.level;
   counted = λ n. grey (pos n);
 }

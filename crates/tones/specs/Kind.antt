@@ -1,4 +1,5 @@
--- What a tone kind is: its tones counted from 0, lowered by whole amounts, and laid in rows. Assumes nothing.
+-- What a tone kind is: its tones counted from 0, lowered by whole amounts, and laid in rows.
+-- Assumes nothing.
 use Rattle.std.specs.Prelude.{◌≡◌, ℕ, ◌-◌, ◌^◌, ◌<◌, ◌≤◌, cond, ℤ, pos, nat_le, unsigned_abs}
 use Rattle.std.specs.Int.{int_max, int_min}
 
@@ -18,6 +19,10 @@ pub record Kind (T Row : Type 0) : Type 0 where
   -- the tone that a row counts as
   pub counted : Row → T
 
+-- two tones lowered alike never change places
+abbrev pub KeepsOrder : {T : Type 0} → (T → ℕ) → (T → ℤ → T) → Type 0
+KeepsOrder {T} code less = (t u : T) (a : ℤ) → code t ≤ code u → code (less t a) ≤ code (less u a)
+
 pub record Laws {T Row : Type 0} (k : Kind T Row) : Type 0 where
   -- there is a tone, and codes and amounts fit 32 bits
   pub some : 0 < k.count
@@ -34,16 +39,16 @@ pub record Laws {T Row : Type 0} (k : Kind T Row) : Type 0 where
   -- an amount outside the span lowers nothing
   pub beyond : (t : T) (a : ℤ) → k.span < unsigned_abs a → k.lowered t a ≡ t
   -- two tones lowered alike never change places
-  pub keeps : (t u : T) (a : ℤ) → k.code t ≤ k.code u → k.code (k.lowered t a) ≤ k.code (k.lowered u a)
+  pub keeps : KeepsOrder k.code k.lowered
   -- the row of a tone counts as that tone
   pub laid : (t : T) → k.counted (k.row t) ≡ t
   -- a row that is no tone's counts as the top tone
   pub outside : (r : Row) → ((t : T) → k.row t ≡ r → ⊥) → k.counted r ≡ k.tone (k.count - 1)
 
--- a whole number held to low..high
-abbrev pub held : ℤ → ℤ → ℤ → ℤ
-held low high z = int_max low (int_min z high)
+-- of the whole numbers low..high the one nearest to z: z held to the range
+abbrev pub nearest : ℤ → ℤ → ℤ → ℤ
+nearest low high z = int_max low (int_min z high)
 
--- lowered as said for an amount within -span..span, and not at all for any other
-abbrev pub spanned : {T : Type 0} → ℕ → (T → ℤ → T) → T → ℤ → T
-spanned span less t a = cond (nat_le (unsigned_abs a) span) (less t a) t
+-- lowered as `less` says by an amount within -span..span, and not at all by any other
+abbrev pub lowered_within : {T : Type 0} → ℕ → (T → ℤ → T) → T → ℤ → T
+lowered_within span less t a = cond (nat_le (unsigned_abs a) span) (less t a) t

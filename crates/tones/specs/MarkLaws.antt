@@ -6,8 +6,8 @@ use Rattle.tones.specs.Codes.{whole_by_codes}
 use Rattle.tones.specs.Kind.{Laws}
 use Rattle.tones.specs.Whole.{WholeNumbers}
 use Rattle.tones.specs.Marks.{mark, mark_value, marks}
-use Rattle.tones.specs.declared.kinds.Mark.{Mark}
-use Rattle.tones.specs.declared.kinds.Mark.TheVariants.{No, Yes}
+use Rattle.tones.specs.declared.marks.Mark.{Mark}
+use Rattle.tones.specs.declared.marks.Mark.TheVariants.{No, Yes}
 
 code_small : (m : Mark) → marks.code m < 2
 code_small No = omega arith

@@ -1,8 +1,8 @@
 -- The kind of marks: no has code 0, yes code 1; no amount lowers one. Assumes nothing.
 use Rattle.std.specs.Prelude.{ℕ, Bool, true, false, ℤ, pos, nat_le}
 use Rattle.tones.specs.Kind.{Kind}
-use Rattle.tones.specs.declared.kinds.Mark.{Mark}
-use Rattle.tones.specs.declared.kinds.Mark.TheVariants.{No, Yes}
+use Rattle.tones.specs.declared.marks.Mark.{Mark}
+use Rattle.tones.specs.declared.marks.Mark.TheVariants.{No, Yes}
 
 -- the code of a mark
 abbrev pub mark_code : Mark → ℕ

@@ -4,12 +4,12 @@ use Rattle.std.proofs.Common.{ap, arith}
 use denote.Struct.Record.{values_one}
 use Rattle.std.proofs.lemmas.Int.{ints, clamps}
 use Rattle.std.proofs.lemmas.Bool.Decides.{nat_tests}
-use Rattle.tones.specs.Kind.{Laws}
+use Rattle.tones.specs.Kind.{KeepsOrder, Laws}
 use Rattle.tones.specs.Whole.{WholeNumbers}
-use Rattle.tones.specs.Reliefs.{lawful, relief, relief_less, relief_value, reliefs}
-use Rattle.tones.specs.Spans.{held_keeps, outside_top, spanned_in, spanned_out, spanned_keeps}
-use Rattle.tones.specs.declared.kinds.Relief.{Relief}
-use Rattle.tones.specs.contracts.kinds.Relief.{struct, the_propositions}
+use Rattle.tones.specs.Reliefs.{is_height, relief, relief_less, relief_value, reliefs}
+use Rattle.tones.specs.Spans.{nearest_keeps, outside_top, lowered_in, lowered_out, lowered_keeps}
+use Rattle.tones.specs.declared.reliefs.Relief.{Relief}
+use Rattle.tones.specs.contracts.reliefs.Relief.{struct, the_propositions}
 
 -- a relief is its height
 pub same_relief : (t u : Relief) → reliefs.row t ≡ reliefs.row u → t ≡ u
@@ -22,11 +22,14 @@ code_up t u h = omega (arith, ints, t.within, u.within)
 code_down : (t u : Relief) → t.height ≤ℤ u.height → reliefs.code t ≤ reliefs.code u
 code_down t u h = omega (arith, ints, t.within, u.within)
 
-less_keeps : (t u : Relief) (a : ℤ) → reliefs.code t ≤ reliefs.code u → reliefs.code (relief_less t a) ≤ reliefs.code (relief_less u a)
-less_keeps t u a h = code_down (relief_less t a) (relief_less u a) (held_keeps (neg_ℤ (pos 255)) (pos 255) t.height u.height a (code_up t u h))
+less_keeps : KeepsOrder reliefs.code relief_less
+less_keeps t u a h =
+    let up : t.height ≤ℤ u.height = code_up t u h in
+    code_down (relief_less t a) (relief_less u a)
+    (nearest_keeps (neg_ℤ (pos 255)) (pos 255) t.height u.height a up)
 
--- a lawful height is the row of the relief of that height
-pub height_back : (z : ℤ) → lawful z ≡ true → reliefs.row (relief z) ≡ z
+-- a height within -255..255 is the row of the relief of that height
+pub height_back : (z : ℤ) → is_height z ≡ true → reliefs.row (relief z) ≡ z
 height_back z e = grind (arith, ints, clamps, nat_tests)
 
 pub relief_laws : Laws reliefs
@@ -39,15 +42,15 @@ relief_laws = record {
   there = λ c h. omega (arith, ints, clamps);
   top = λ c h. same_relief (reliefs.tone c) (reliefs.tone 510) (omega (arith, ints, clamps));
   still = λ t. same_relief (relief_less t (pos 0)) t (omega (arith, ints, clamps, t.within));
-  beyond = spanned_out 255 relief_less;
-  keeps = spanned_keeps 255 relief_less reliefs.code less_keeps;
+  beyond = lowered_out 255 relief_less;
+  keeps = lowered_keeps 255 relief_less reliefs.code less_keeps;
   laid = λ t. same_relief (reliefs.counted t.height) t (grind (arith, ints, nat_tests, t.within));
-  outside = outside_top reliefs.row lawful relief (relief (pos 255)) height_back;
+  outside = outside_top reliefs.row is_height relief (relief (pos 255)) height_back;
 }
 
 pub relief_whole : WholeNumbers reliefs (neg_ℤ (pos 255)) (pos 255) relief_value
 relief_whole = record {
   limits = λ t. (omega (arith, ints, t.within), omega (arith, ints, t.within));
   order = λ t u. (code_up t u, code_down t u);
-  lowering = λ t a h. ap relief_value (spanned_in 255 relief_less t a h);
+  lowering = λ t a h. ap relief_value (lowered_in 255 relief_less t a h);
 }

@@ -1,14 +1,33 @@
 // Colours: ranked by brightness, then falling saturation, then hue; no amount lowers one.
-ghost use Rattle.tones.specs.Colours.{colours, colour_value, parts, Making, Before, RankedByParts};
-ghost use Rattle.tones.specs.Whole.{WholeNumbers};
-ghost use Rattle.std.specs.Prelude.{◌≡◌, pos, Decides};
-ghost use Rattle.tones.specs.ColourLaws.{colour_laws};
+ghost use Rattle.std.specs.Prelude.{◌<◌};
 
 use crate::interface::Tone;
-use crate::kinds::{Colour, ColourRow};
 use crate::refusals::ToneRefusal;
 
+/// A colour: a hue from 0 to 359, a saturation and a brightness from 0 to 255.
+#[derive(Clone, Copy, PartialEq, Eq, Debug)]
+pub struct Colour {
+    pub hue: u16,
+    pub saturation: u8,
+    pub brightness: u8,
+    ghost within: { (hue < 360) × (saturation < 256) × (brightness < 256) },
+}
+
+/// A colour's parts as they lie in memory, within its limits or not: a type of its own, since a
+/// `Colour` is within them.
+#[derive(Clone, Copy, PartialEq, Eq, Debug, Default)]
+pub struct ColourRow {
+    pub hue: u16,
+    pub saturation: u8,
+    pub brightness: u8,
+}
+
 impl Colour {
+    ghost use Rattle.std.specs.Prelude.{pos, Decides};
+    ghost use Rattle.tones.specs.Colours.{Before, Making, RankedByParts};
+    ghost use Rattle.tones.specs.Colours.{colour_value, colours, parts};
+    ghost use Rattle.tones.specs.Whole.{WholeNumbers};
+
     /// The top tone.
     pub const TOP: Colour = Colour {
         hue: 359,
@@ -31,7 +50,8 @@ impl Colour {
         })
     }
 
-    /// Whether this colour is below another: darker first, then more saturated, then smaller hue. A derived order would go by the fields upwards.
+    /// Whether this colour is below another: darker first, then more saturated, then smaller hue.
+    /// A derived order would go by the fields upwards.
     pub fn is_below(self, other: Colour) -> bool
         ensures answer { Decides result (Before self other) }
         ensures order { RankedByParts }
@@ -41,6 +61,9 @@ impl Colour {
 }
 
 impl From<Colour> for ColourRow {
+    ghost use Rattle.std.specs.Prelude.{◌≡◌};
+    ghost use Rattle.tones.specs.Colours.{parts};
+
     ghost from_gives = { λ t row. row ≡ parts t.hue t.saturation t.brightness };
 
     fn from(colour: Colour) -> ColourRow {
@@ -53,6 +76,10 @@ impl From<Colour> for ColourRow {
 }
 
 impl Tone for Colour {
+    ghost use Rattle.std.specs.Prelude.{◌≡◌};
+    ghost use Rattle.tones.specs.Colours.{colours};
+    ghost use Rattle.tones.specs.ColourLaws.{colour_laws};
+
     type Row = ColourRow;
 
     ghost kind = { colours };
@@ -75,7 +102,7 @@ impl Tone for Colour {
     fn of_code(code: u32) -> Colour
         ensures { colours.row result ≡ colours.row (colours.tone code) }
     {
-        if code >= 23_592_960 {
+        if code >= Self::count() {
             return Colour::TOP;
         }
         Colour {

@@ -1,13 +1,20 @@
 // Greys: each its own code; lowered by the difference, held to 0..255.
-ghost use Rattle.tones.specs.Greys.{greys, grey_value};
-ghost use Rattle.tones.specs.Whole.{WholeNumbers};
-ghost use Rattle.std.specs.Prelude.{◌≡◌, pos};
-ghost use Rattle.tones.specs.GreyLaws.{grey_laws};
+ghost use Rattle.std.specs.Prelude.{◌<◌};
 
 use crate::interface::Tone;
-use crate::kinds::Grey;
+
+/// A grey from 0, black, to 255, white.
+#[derive(Clone, Copy, PartialEq, Eq, Debug)]
+pub struct Grey {
+    pub level: u8,
+    ghost within: { level < 256 },
+}
 
 impl Grey {
+    ghost use Rattle.std.specs.Prelude.{◌≡◌, pos};
+    ghost use Rattle.tones.specs.Greys.{grey_value, greys};
+    ghost use Rattle.tones.specs.Whole.{WholeNumbers};
+
     /// The grey of its row.
     pub fn new(level: u8) -> Grey
         ensures answer { result.level ≡ level }
@@ -18,6 +25,10 @@ impl Grey {
 }
 
 impl Tone for Grey {
+    ghost use Rattle.std.specs.Prelude.{◌≡◌};
+    ghost use Rattle.tones.specs.Greys.{greys};
+    ghost use Rattle.tones.specs.GreyLaws.{grey_laws};
+
     type Row = u8;
 
     ghost kind = { greys };

@@ -5,7 +5,6 @@
 mod colours;
 mod greys;
 mod interface;
-mod kinds;
 mod marks;
 mod ranking;
 mod refusals;
@@ -13,7 +12,10 @@ mod reliefs;
 #[cfg(test)]
 mod tests;
 
+pub use colours::{Colour, ColourRow};
+pub use greys::Grey;
 pub use interface::Tone;
-pub use kinds::{Colour, ColourRow, Grey, Mark, Relief};
+pub use marks::Mark;
 pub use ranking::{count_at_least, higher_of, lower_of};
 pub use refusals::ToneRefusal;
+pub use reliefs::Relief;

@@ -1,11 +1,17 @@
 // Marks: no has code 0, yes code 1; no amount lowers one.
-ghost use Rattle.tones.specs.Marks.{mark, mark_value, marks};
-ghost use Rattle.tones.specs.Whole.{WholeNumbers};
 ghost use Rattle.std.specs.Prelude.{◌≡◌, pos};
 ghost use Rattle.tones.specs.MarkLaws.{mark_laws};
+ghost use Rattle.tones.specs.Marks.{mark, mark_value, marks};
+ghost use Rattle.tones.specs.Whole.{WholeNumbers};
 
 use crate::interface::Tone;
-use crate::kinds::Mark;
+
+/// A mark: no is below yes.
+#[derive(Clone, Copy, PartialEq, Eq, Debug)]
+pub enum Mark {
+    No,
+    Yes,
+}
 
 impl Mark {
     /// The mark of its row. Not a `From`: each kind is made by its `new`.

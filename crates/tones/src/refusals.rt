@@ -1,10 +1,14 @@
 // Why a tone is not made.
-ghost use Rattle.std.specs.Prelude.{◌≡◌};
-ghost use Rattle.tones.specs.Refusals.{refusal_number};
+ghost use Rattle.std.specs.Prelude.{◌≡◌, Some};
+ghost use Rattle.tones.specs.Refusals.{refusal_number, refusal_text};
+
+use std::error::Error;
+use std::fmt;
 
 /// Why a tone is not made from its parts.
 #[derive(Clone, Copy, PartialEq, Eq, Debug)]
 pub enum ToneRefusal {
+    /// A part is outside its limits.
     OutsideLimits = 1,
 }
 
@@ -16,3 +20,13 @@ impl ToneRefusal {
         self as u32
     }
 }
+
+impl fmt::Display for ToneRefusal {
+    ghost output = { λ refusal. Some (refusal_text refusal) };
+
+    fn fmt<W: fmt::Write>(&self, f: &mut fmt::Formatter<W>) -> fmt::Result {
+        write!(f, "{}: a part is outside its limits", self.number())
+    }
+}
+
+impl Error for ToneRefusal {}

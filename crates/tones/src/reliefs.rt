@@ -1,14 +1,21 @@
 // Reliefs: -255 has code 0; lowered by the difference, held to -255..255.
-ghost use Rattle.tones.specs.Reliefs.{reliefs, relief_value, Making};
-ghost use Rattle.tones.specs.Whole.{WholeNumbers};
-ghost use Rattle.std.specs.Prelude.{◌≡◌, pos, neg_ℤ};
-ghost use Rattle.tones.specs.ReliefLaws.{relief_laws};
+ghost use Rattle.std.specs.Prelude.{◌≤◌, unsigned_abs};
 
 use crate::interface::Tone;
-use crate::kinds::Relief;
 use crate::refusals::ToneRefusal;
 
+/// A relief: a height from -255 to 255.
+#[derive(Clone, Copy, PartialEq, Eq, Debug)]
+pub struct Relief {
+    pub height: i16,
+    ghost within: { unsigned_abs height ≤ 255 },
+}
+
 impl Relief {
+    ghost use Rattle.std.specs.Prelude.{pos, neg_ℤ};
+    ghost use Rattle.tones.specs.Reliefs.{Making, relief_value, reliefs};
+    ghost use Rattle.tones.specs.Whole.{WholeNumbers};
+
     /// The relief of a height; refused outside -255..255.
     pub fn new(height: i16) -> Result<Relief, ToneRefusal>
         ensures answer { Making height result }
@@ -22,6 +29,10 @@ impl Relief {
 }
 
 impl Tone for Relief {
+    ghost use Rattle.std.specs.Prelude.{◌≡◌};
+    ghost use Rattle.tones.specs.Reliefs.{reliefs};
+    ghost use Rattle.tones.specs.ReliefLaws.{relief_laws};
+
     type Row = i16;
 
     ghost kind = { reliefs };

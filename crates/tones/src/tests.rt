@@ -1,8 +1,5 @@
 // What the kinds do on examples.
-use crate::interface::Tone;
-use crate::kinds::{Colour, ColourRow, Grey, Mark, Relief};
-use crate::ranking::{count_at_least, higher_of, lower_of};
-use crate::refusals::ToneRefusal;
+use crate::{Colour, ColourRow, Grey, Mark, Relief, Tone, count_at_least, higher_of, lower_of};
 use std::process::Abort;
 use std::test::Fail;
 

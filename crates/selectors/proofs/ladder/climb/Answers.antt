@@ -14,8 +14,8 @@ returns-then-left-entry c =
     let es = c.args.entries.now in
     let i = c.loop-entry.entry-index in
     ranked_from (weigh es (length es)) c.args.rank (get_or es i blank).code
-    (omega (arith, c.loop-entry.invariant.0, rising_below es (length es) i c.requires.0 (omega arith)))
-    (omega (arith, c.loop-entry.invariant.0, rising_upto es (length es) i c.requires.0 (omega arith), below_suc (λ j. (get_or es j blank).weight) i))
+    (omega (arith, c.loop-entry.invariant.0, rising_below es (length es) i c.requires.rising (omega arith)))
+    (omega (arith, c.loop-entry.invariant.0, rising_upto es (length es) i c.requires.rising (omega arith), below_suc (λ j. (get_or es j blank).weight) i))
 
 pub loop-entry-preserved : goal.loop-entry-preserved
 loop-entry-preserved c =

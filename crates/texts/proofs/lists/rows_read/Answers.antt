@@ -21,7 +21,7 @@ loop-part-preserved g c =
       c.in-Some.ensures.steps.0 ∙ size,
       before ++ part,
       split ∙ ap (λ ws. before ++ ws) c.in-Some.ensures.steps.1.0 ∙ sym (append_assoc before part rest),
-      rw more (rows_then g.T.Rows.written before part c.loop-part.rows.items c.in_ok-row.row says (search rules)),
+      rw more (rows_then g.T.Rows.scripted.written before part c.loop-part.rows.items c.in_ok-row.row says (search rules)),
     )
 
 pub returns : goal.returns
@@ -37,10 +37,12 @@ returns-in_err-row g c =
     let (size, before, split, says) = c.loop-part.invariant in
     let sized = g.met.T.Rows.sized in
     let cut = c.in-Some.ensures.steps.1.0 in
-    let long : length part ≡ min g.T.Rows.count (length (part ++ rest)) =
-    c.in-Some.ensures.steps.1.1 ∙ ap (λ k. min k (length c.loop-part.part-iterator.rest.now)) size ∙ ap (λ ws. min g.T.Rows.count (length ws)) cut in
+    let short = c.in-Some.ensures.steps.1.1 in
+    let long : length part ≡ min g.T.Rows.scripted.count (length (part ++ rest)) = cc (short, size, cut) in
     let some : 0 < length part = omega (arith, long, sized.0, ap length cut, c.in-Some.ensures.steps.1.2) in
     let none : c.read.result ≡ None = search rules in
-    let unread : (row : g.row.T-Row.Denot) → g.T.Rows.written part row → ⊥ = rw none at c.read.ensures in
+    let unread : (row : g.row.T-Row.Denot) → g.T.Rows.scripted.written part row → ⊥ = rw none at c.read.ensures in
     let unknown : c.from_residual.result ≡ Err Unknown = search rules in
-    rw unknown (inl (refl, λ rows. none_written g.T.Rows.written g.T.Rows.count sized before part rest c.args.words.now c.loop-part.rows.items rows says (split ∙ ap (λ ws. before ++ ws) cut) some long unread))
+    let whole = split ∙ ap (λ ws. before ++ ws) cut in
+    let written = none_written g.T.Rows.scripted.written g.T.Rows.scripted.count sized in
+    rw unknown (inl (refl, λ rows. written before part rest c.args.words.now c.loop-part.rows.items rows says whole some long unread))

@@ -1,5 +1,5 @@
 use Rattle.std.proofs.Common.{◌≡◌, ◌-◌, true, length, take, set, sym, refl, ap, ◌∙◌, subst, arith}
-use Rattle.areas.specs.Areas.{on_card, next_of, stale_rows}
+use Rattle.areas.specs.Areas.{areas_fit, next_of, stale_rows}
 use Rattle.areas.specs.Meanings.{Leaves}
 use Rattle.areas.specs.Listed.{listed}
 use Rattle.areas.proofs.Dropping.{leaves, rows_dropped}
@@ -30,7 +30,7 @@ invariant_of-self c =
     let k = c.in-Some.stage in
     let r = c.in-Some.rect in
     let long : length (set a.areas (k - 1) c.lessened.result) ≡ 8 = rw c.lessened.ensures (drop_long a k r is) in
-    let sound : on_card a.frame.size (take a.count (set a.areas (k - 1) c.lessened.result)) ≡ true = rw c.lessened.ensures (drop_sound a k r is) in
+    let sound : areas_fit a.frame.size (take a.count (set a.areas (k - 1) c.lessened.result)) ≡ true = rw c.lessened.ensures (drop_sound a k r is) in
     record { long = long; few = a.few; sound = sound }
 
 pub returns-in-Some : goal.returns-in-Some

@@ -1,7 +1,7 @@
 use Rattle.std.proofs.Common.{refl}
-use Rattle.areas.specs.Areas.{on_card}
+use Rattle.areas.specs.Areas.{areas_fit}
 use Rattle.areas.proofs.areas.Areas.none.Goals as goal
 
 pub invariant_of-result-clause-sound : goal.invariant_of-result-clause-sound
-unfolding on_card
+unfolding areas_fit
 invariant_of-result-clause-sound c = refl

@@ -3,7 +3,7 @@ use Rattle.std.proofs.lemmas.Iterator.{YieldsList-from_slice, YieldsList-from_ta
 use Rattle.std.proofs.lemmas.Iterator.Consumers.{YieldsList-from_enumerate, YieldsList-turn, YieldsList-end}
 use Rattle.std.proofs.lemmas.List.{length_push}
 use Rattle.areas.specs.Rects.{Fits, Holds}
-use Rattle.areas.specs.Areas.{on_card, spread}
+use Rattle.areas.specs.Areas.{areas_fit, spread}
 use Rattle.areas.specs.Listed.{listed}
 use Rattle.areas.specs.Meanings.{Spreads}
 use Rattle.areas.proofs.Listing.{length_listed, stored_fits, stored_long, stored_sound, stored_more}
@@ -21,7 +21,7 @@ invariant_of-self c =
     let within : k < a.count = omega (arith, at.0, c.loop-i.invariant.3) in
     let n = c.joined-below.result in
     let long : length (set a.areas c.in-Some.i (Some n)) ≡ 8 = stored_long a ss c.loop-i.below c.widened.result n c.in-Some.stage.now c.in-Some.i k (t.1 ∙ at.2) within at.1 c.widened.ensures.answer c.joined-below.ensures.answer c.loop-i.invariant.4 in
-    let sound : on_card a.frame.size (take a.count (set a.areas c.in-Some.i (Some n))) ≡ true = stored_sound a ss c.loop-i.below c.widened.result n c.in-Some.stage.now c.in-Some.i k (t.1 ∙ at.2) within at.1 c.widened.ensures.answer c.joined-below.ensures.answer c.loop-i.invariant.4 in
+    let sound : areas_fit a.frame.size (take a.count (set a.areas c.in-Some.i (Some n))) ≡ true = stored_sound a ss c.loop-i.below c.widened.result n c.in-Some.stage.now c.in-Some.i k (t.1 ∙ at.2) within at.1 c.widened.ensures.answer c.joined-below.ensures.answer c.loop-i.invariant.4 in
     record { long = long; few = a.few; sound = sound }
 
 pub loop-i-preserved : goal.loop-i-preserved

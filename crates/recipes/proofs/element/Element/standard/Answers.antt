@@ -6,4 +6,4 @@ use Rattle.recipes.proofs.element.Element.standard.Goals as goal
 pub returns-clause-members : goal.returns-clause-members
 returns-clause-members c = λ s e.
     let is : c.in_ok-try_from.field-0 ≡ s = cc (c.in_ok-try_from.ensures, e) in
-    subst (Members s) (sym (c.shaped.ensures.places ∙ ap standard_places is)) (shape_members s)
+    subst (Members s) (sym (c.element.ensures.places ∙ ap standard_places is)) (shape_members s)

@@ -1,7 +1,8 @@
 use Rattle.std.proofs.Common.{rules, ◌≡◌, true, cond, ◌&&◌, Some, None, ◌+◌, ◌<◌, length, get_or, pos, ◌+ℤ◌, unsigned_abs, ap, sym, refl, ◌∙◌, arith}
 use Rattle.planes.specs.Sizes.{cell}
 use Rattle.std.proofs.lemmas.List.{get_or_default}
-use Rattle.stages.specs.Planes.{blank, picture}
+use Rattle.stages.specs.Planes.{blank}
+use Rattle.stages.specs.Sites.{seen}
 use Rattle.stages.specs.Stages.{on_card}
 use Rattle.stages.specs.Taps.{tap_code}
 use Rattle.stages.proofs.site.Site.code_near.Goals as goal
@@ -22,7 +23,7 @@ returns g c =
     let place : c.cell.result ≡ 0 + cell size u v = omega (arith, cells) in
     let within : c.cell.result < length site.plane.now = omega (arith, c.cell.ensures.bound, site.filled) in
     let read = get_or_default site.plane.now c.cell.result c.index-self-cell.result (blank k) within ∙ ap (λ i. get_or site.plane.now i (blank k)) place in
-    let tone : c.of_row.result ≡ picture k size 0 site.plane.now u v = c.of_row.ensures ∙ ap k.counted read in
+    let tone : c.of_row.result ≡ seen site u v = c.of_row.ensures ∙ ap k.counted read in
     let still = ap (k.lowered c.of_row.result) flat ∙ g.met.T.Tone.lawful.still c.of_row.result in
-    let code : c.code.result ≡ tap_code k size (picture k size 0 site.plane.now) site.x site.y tap = c.code.ensures ∙ ap k.code (sym still ∙ ap (λ t. k.lowered t tap.amount) tone) in
-    ap Some code ∙ sym (ap (λ b. cond b (Some (tap_code k size (picture k size 0 site.plane.now) site.x site.y tap)) None) test)
+    let code : c.code.result ≡ tap_code k size (seen site) site.x site.y tap = c.code.ensures ∙ ap k.code (sym still ∙ ap (λ t. k.lowered t tap.amount) tone) in
+    ap Some code ∙ sym (ap (λ b. cond b (Some (tap_code k size (seen site) site.x site.y tap)) None) test)

@@ -1,5 +1,5 @@
 use Rattle.std.proofs.Common.{◌≤◌, ◌∙◌, arith}
-use Rattle.stages.specs.Planes.{picture}
+use Rattle.stages.specs.Sites.{seen}
 use Rattle.stages.proofs.Cleaning.{rank_selected, selected_cleaned}
 use Rattle.stages.proofs.window.Window.pixel.Goals as goal
 
@@ -9,7 +9,7 @@ unwrap-requires g c =
     let site = c.args.site.now in
     let sel = c.fill.new.selector in
     let codes : k.count ≤ g.S.Selector.range sel = omega (arith, c.fill.ensures.range_kept, c.requires.codes) in
-    rank_selected k g.met.T.Tone.lawful site.frame.size c.args.self.now.stage (picture k site.frame.size 0 site.plane.now) site.x site.y site.column site.row (g.S.Selector.weight sel) (g.S.Selector.range sel) c.total.result c.rank-rank.result c.fill.ensures.weights codes c.total.ensures.answer c.rank-rank.ensures c.select.result c.select.ensures.answer
+    rank_selected k g.met.T.Tone.lawful site.frame.size c.args.self.now.stage (seen site) site.x site.y site.column site.row (g.S.Selector.weight sel) (g.S.Selector.range sel) c.total.result c.rank-rank.result c.fill.ensures.weights codes c.total.ensures.answer c.rank-rank.ensures c.select.result c.select.ensures.answer
 
 pub returns-clause-answer : goal.returns-clause-answer
 returns-clause-answer g c =
@@ -17,4 +17,4 @@ returns-clause-answer g c =
     let site = c.args.site.now in
     let sel = c.fill.new.selector in
     let codes : k.count ≤ g.S.Selector.range sel = omega (arith, c.fill.ensures.range_kept, c.requires.codes) in
-    c.of_code.ensures ∙ selected_cleaned k g.met.T.Tone.lawful site.frame.size c.args.self.now.stage (picture k site.frame.size 0 site.plane.now) site.x site.y site.column site.row (g.S.Selector.weight sel) (g.S.Selector.range sel) c.total.result c.rank-rank.result c.fill.ensures.weights codes c.total.ensures.answer c.rank-rank.ensures c.select.result c.unwrap.result c.select.ensures.answer c.unwrap.ensures
+    c.of_code.ensures ∙ selected_cleaned k g.met.T.Tone.lawful site.frame.size c.args.self.now.stage (seen site) site.x site.y site.column site.row (g.S.Selector.weight sel) (g.S.Selector.range sel) c.total.result c.rank-rank.result c.fill.ensures.weights codes c.total.ensures.answer c.rank-rank.ensures c.select.result c.unwrap.result c.select.ensures.answer c.unwrap.ensures

@@ -2,10 +2,10 @@ use Rattle.std.proofs.Common.{◌<◌, ◌≤◌, get_or, sym, refl, ◌∙◌, 
 use Rattle.recipes.specs.Placed.{placed}
 use Rattle.recipes.specs.Places.{origin}
 use Rattle.recipes.proofs.Elements.{order_positive, order_few}
-use Rattle.stages.specs.Planes.{picture}
+use Rattle.stages.specs.Sites.{seen}
 use Rattle.stages.specs.Stages.{window}
 use Rattle.stages.specs.declared.taps.Tap.{Tap}
-use Rattle.stages.proofs.Cleaning.{room}
+use Rattle.stages.proofs.Cleaning.{takes_one_more}
 use Rattle.stages.proofs.Turns.{tap_within, tap_item, tap_step}
 use Rattle.stages.proofs.Windows.{weight_positive, weight_most}
 use Rattle.stages.proofs.window.Window.put_taps.Goals as goal
@@ -14,15 +14,15 @@ pub loop-tap-init : goal.loop-tap-init
 unfolding window
 loop-tap-init g c = record { in_order = c.requires.order; range_kept = refl; weights = c.requires.none }
 
-pub put_tap-requires-clause-room : goal.put_tap-requires-clause-room
-put_tap-requires-clause-room g c =
+pub put_tap-requires-clause-more : goal.put_tap-requires-clause-more
+put_tap-requires-clause-more g c =
     let k = g.T.Tone.kind in
     let site = c.args.site.now in
     let s = c.args.self.now.stage in
     let i = c.loop-tap.tap-index in
     let sel = c.loop-tap.selector in
     let within = tap_within s c.taps-tap-items.result.now i c.taps-tap-items.ensures.taps c.loop-tap-test.true in
-    room k site.frame.size s (picture k site.frame.size 0 site.plane.now) site.x site.y (g.S.Selector.weight sel) i (g.S.Selector.range sel) within c.loop-tap.invariant.weights
+    takes_one_more k site.frame.size s (seen site) site.x site.y (g.S.Selector.weight sel) i (g.S.Selector.range sel) within c.loop-tap.invariant.weights
 
 pub put_tap-requires-clause-fit : goal.put_tap-requires-clause-fit
 put_tap-requires-clause-fit g c =
@@ -44,5 +44,5 @@ loop-tap-preserved g c =
     record {
       in_order = c.put_tap.ensures.in_order;
       range_kept = c.put_tap.ensures.range_kept ∙ inv.range_kept;
-      weights = λ d. tap_step k site.frame.size s (picture k site.frame.size 0 site.plane.now) site.x site.y _ i d _ _ (tap_within s ts i is c.loop-tap-test.true) (tap_item s ts i _ is c.loop-tap-test.true) (inv.weights d) (c.put_tap.ensures.weights d);
+      weights = λ d. tap_step k site.frame.size s (seen site) site.x site.y _ i d _ _ (tap_within s ts i is c.loop-tap-test.true) (tap_item s ts i _ is c.loop-tap-test.true) (inv.weights d) (c.put_tap.ensures.weights d);
     }

@@ -2,11 +2,11 @@ use Rattle.std.proofs.Common.{◌<◌, ◌≤◌, get_or, sym, refl, ◌∙◌, 
 use Rattle.recipes.specs.Placed.{placed}
 use Rattle.recipes.specs.Places.{origin}
 use Rattle.recipes.proofs.Elements.{order_positive, order_few}
-use Rattle.stages.specs.Planes.{picture}
+use Rattle.stages.specs.Sites.{seen}
 use Rattle.stages.specs.Stages.{window}
 use Rattle.stages.specs.declared.taps.Tap.{Tap}
-use Rattle.stages.proofs.Cleaning.{room}
-use Rattle.stages.specs.Taps.{Near}
+use Rattle.stages.proofs.Cleaning.{takes_one_more}
+use Rattle.stages.specs.Taps.{IsNear}
 use Rattle.stages.proofs.Nears.{near_tap}
 use Rattle.stages.proofs.Turns.{tap_within, tap_item, tap_step}
 use Rattle.stages.proofs.Windows.{weight_positive, weight_most}
@@ -16,15 +16,15 @@ pub loop-tap-init : goal.loop-tap-init
 unfolding window
 loop-tap-init g c = record { in_order = c.requires.order; range_kept = refl; weights = c.requires.none }
 
-pub put_near-requires-clause-room : goal.put_near-requires-clause-room
-put_near-requires-clause-room g c =
+pub put_near-requires-clause-more : goal.put_near-requires-clause-more
+put_near-requires-clause-more g c =
     let k = g.T.Tone.kind in
     let site = c.args.site.now in
     let s = c.args.self.now.stage in
     let i = c.loop-tap.tap-index in
     let sel = c.loop-tap.selector in
     let within = tap_within s c.taps-tap-items.result.now i c.taps-tap-items.ensures.taps c.loop-tap-test.true in
-    room k site.frame.size s (picture k site.frame.size 0 site.plane.now) site.x site.y (g.S.Selector.weight sel) i (g.S.Selector.range sel) within c.loop-tap.invariant.weights
+    takes_one_more k site.frame.size s (seen site) site.x site.y (g.S.Selector.weight sel) i (g.S.Selector.range sel) within c.loop-tap.invariant.weights
 
 pub put_near-requires-clause-fit : goal.put_near-requires-clause-fit
 put_near-requires-clause-fit g c =
@@ -42,7 +42,7 @@ put_near-requires-clause-near g c =
     let is = c.taps-tap-items.ensures.taps in
     let i = c.loop-tap.tap-index in
     let item = tap_item s ts i _ is c.loop-tap-test.true in
-    subst (Near site.frame.size site.x site.y) (sym item) (near_tap site.frame.size s site.x site.y i (tap_within s ts i is c.loop-tap-test.true) c.requires.flat c.requires.inner)
+    subst (IsNear site.frame.size site.x site.y) (sym item) (near_tap site.frame.size s site.x site.y i (tap_within s ts i is c.loop-tap-test.true) c.requires.flat c.requires.inner)
 
 pub loop-tap-preserved : goal.loop-tap-preserved
 loop-tap-preserved g c =
@@ -56,5 +56,5 @@ loop-tap-preserved g c =
     record {
       in_order = c.put_near.ensures.in_order;
       range_kept = c.put_near.ensures.range_kept ∙ inv.range_kept;
-      weights = λ d. tap_step k site.frame.size s (picture k site.frame.size 0 site.plane.now) site.x site.y _ i d _ _ (tap_within s ts i is c.loop-tap-test.true) (tap_item s ts i _ is c.loop-tap-test.true) (inv.weights d) (c.put_near.ensures.weights d);
+      weights = λ d. tap_step k site.frame.size s (seen site) site.x site.y _ i d _ _ (tap_within s ts i is c.loop-tap-test.true) (tap_item s ts i _ is c.loop-tap-test.true) (inv.weights d) (c.put_near.ensures.weights d);
     }

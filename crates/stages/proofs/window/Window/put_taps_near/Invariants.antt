@@ -1,6 +1,6 @@
 use Rattle.std.proofs.Common.{◌≡◌, ℕ, take}
 use Rattle.recipes.specs.Placed.{placed}
-use Rattle.stages.specs.Planes.{picture}
+use Rattle.stages.specs.Sites.{seen}
 use Rattle.stages.specs.Stages.{window}
 use Rattle.stages.proofs.window.Window.put_taps_near.Given as goal
 
@@ -12,5 +12,5 @@ invariant-loop-tap g l =
     record {
       in_order : s.ordered l.selector;
       range_kept : s.range l.selector ≡ s.range l.initial.selector;
-      weights : (c : ℕ) → s.weight l.selector c ≡ window k site.frame.size l.self.stage (picture k site.frame.size 0 site.plane.now) site.x site.y (take l.tap-index (placed l.self.stage.element)) c;
+      weights : (c : ℕ) → s.weight l.selector c ≡ window k site.frame.size l.self.stage (seen site) site.x site.y (take l.tap-index (placed l.self.stage.element)) c;
     }

@@ -1,5 +1,5 @@
 use Rattle.std.proofs.Common.{◌≡◌, length, take}
-use Rattle.recipes.proofs.shapes.shaped.Given as goal
+use Rattle.recipes.proofs.shapes.Shape.element.Given as goal
 
 -- the places so far are stored
 abbrev pub invariant-loop-place : goal.invariant-loop-place
