@@ -3,3 +3,5 @@
 #![tactic(auto)]
 
 pub mod refusals;
+
+pub use refusals::Refusal;

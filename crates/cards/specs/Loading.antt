@@ -1,10 +1,10 @@
 -- What a load answers and leaves. Assumes nothing.
-use Rattle.std.specs.Prelude.{◌≡◌, ℕ, List, Some, None, Ok, Err, Option, Result}
-use Rattle.pgm.specs.Numbers.{number_of, letter_of, byte_of}
+use Rattle.std.specs.Prelude.{◌≡◌, ℕ, List, ◌++◌, codes, Some, None, Ok, Err, Option, Result}
+use Rattle.pgm.specs.Numbers.{number_of, letter_of, byte_of, fault_text}
 use Rattle.pgm.specs.Reading.{Reading, Reads}
 use Rattle.pgm.specs.Reading.Reading.{Shows, Faulty}
 use Rattle.tones.specs.Greys.{greys}
-use Rattle.calls.specs.Refusals.{refusal_number}
+use Rattle.calls.specs.Refusals.{refusal_number, refusal_text}
 use Rattle.calls.specs.Calls.{State, Answer, refusal}
 use Rattle.calls.specs.Calls.Answer.{Done, Refused}
 use Rattle.calls.specs.Calls.Call.{Patch}
@@ -26,6 +26,11 @@ load_spot (Card e) = 0
 abbrev pub load_letter : LoadFault → Option ℕ
 load_letter (File f) = Some (letter_of f)
 load_letter (Card e) = None
+
+-- what was refused, the file or the card, and why
+abbrev pub load_text : LoadFault → List ℕ
+load_text (File f) = codes "file: " ++ fault_text f
+load_text (Card e) = codes "card: " ++ refusal_text e
 
 -- the result of a load as an answer of the patch under it
 abbrev pub load_answer : Result (Unit {0}) LoadFault → Answer ℕ

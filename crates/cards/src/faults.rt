@@ -6,9 +6,11 @@ ghost use Rattle.std.specs.Prelude.{◌≡◌};
 
 use calls::refusals::Refusal;
 use pgm::faults::FileFault;
+use std::error::Error;
+use std::fmt;
 
 /// Why a file is not loaded.
-#[derive(Clone, Copy)]
+#[derive(Clone, Copy, PartialEq, Eq, Debug)]
 pub enum LoadFault {
     /// The file is no picture.
     File(FileFault),
@@ -63,3 +65,20 @@ impl From<Refusal> for LoadFault {
         LoadFault::Card(refusal)
     }
 }
+
+/// What was refused, the file or the card, and why.
+impl fmt::Display for LoadFault {
+    ghost use Rattle.std.specs.Prelude.{Some};
+    ghost use Rattle.cards.specs.Loading.{load_text};
+
+    ghost output = { λ fault. Some (load_text fault) };
+
+    fn fmt<W: fmt::Write>(&self, f: &mut fmt::Formatter<W>) -> fmt::Result {
+        match self {
+            LoadFault::File(fault) => write!(f, "file: {fault}"),
+            LoadFault::Card(refusal) => write!(f, "card: {refusal}"),
+        }
+    }
+}
+
+impl Error for LoadFault {}

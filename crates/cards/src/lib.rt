@@ -5,4 +5,9 @@
 pub mod card;
 pub mod faults;
 pub mod loading;
+pub mod refused;
 pub mod residues;
+
+pub use card::{Card, memory_len};
+pub use faults::LoadFault;
+pub use refused::AnyRefusal;

@@ -1,9 +1,8 @@
 //! A card from its opening to a corner that is lettered again: README.md quotes this text.
 
-use calls::refusals::Refusal;
-use cards::card::Card;
-use recipes::draft::Draft;
-use recipes::element::Element;
+use calls::Refusal;
+use cards::Card;
+use recipes::{Draft, Element};
 use selectors::Histogram;
 use std::test::Fail;
 use tones::Grey;
