@@ -23,6 +23,7 @@ pub enum HeaderFault {
 /// A fault of the file.
 #[derive(Clone, Copy, PartialEq, Eq, Debug)]
 pub enum FileFault {
+    /// (a) to (d) The header's fault.
     Header(HeaderFault),
     /// (e) Samples are missing, at the file's length, or too many, at the first extra byte.
     Count(usize),
