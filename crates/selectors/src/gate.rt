@@ -90,8 +90,7 @@ fn narrow(entries: &[Entry], rank: u32) -> u32
     let mut left = rank;
     for bit in (0..25u32).rev() {
         let mut lower = 0;
-        // All entries, with no early stop: a loop with no branch adds them up side by side, and a select takes as long
-        // whatever the weights are.
+        // All entries, each time: with no early stop and no branch they are added up side by side.
         for entry in entries {
             lower += weight_under(*entry, bit, low);
         }
