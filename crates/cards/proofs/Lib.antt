@@ -1,2 +1,5 @@
 pub mod Answered
 pub mod Subtracting
+pub mod Written
+pub mod Tasks
+pub mod Progress

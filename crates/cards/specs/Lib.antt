@@ -1,3 +1,4 @@
 pub mod Meanings
 pub mod Loading
 pub mod Refused
+pub mod OpenCards

@@ -4,8 +4,9 @@ ghost use Rattle.std.specs.Prelude.{◌≡◌, ℕ, List, length, Some, None, Ok
 ghost use Rattle.calls.specs.Calls.{room};
 ghost use Rattle.calls.specs.Opening.{memory_of};
 ghost use Rattle.calls.specs.declared.refusals.Refusal.TheVariants.{Memory};
-ghost use Rattle.sheets.specs.Meanings.{notes_of};
+ghost use Rattle.cards.specs.OpenCards.{notes_of};
 
+use crate::open_card::OpenCard;
 use areas::rect::Rect;
 use calls::refusals::Refusal;
 use planes::frame::Frame;
@@ -13,16 +14,15 @@ use planes::size::Size;
 use recipes::draft::Draft;
 use recipes::recipe::Stage;
 use selectors::Selector;
-use sheets::sheet::Sheet;
 use std::marker::PhantomData;
 use tones::Tone;
 
-/// A card of tones T with a selector S. It has a sheet once it has a size; its tones lie in memory that each call is lent.
+/// A card of tones T with a selector S. Once it has a size it is an open card; its tones lie in memory that each call is lent.
 /// That its selector is in order is no invariant: a card may be made of any selector, and each call says that it keeps what holds.
 #[derive(Drop)]
 pub struct Card<T, S> {
     pub(crate) selector: S,
-    pub(crate) sheet: Option<Sheet>,
+    pub(crate) opened: Option<OpenCard>,
     pub(crate) tones: PhantomData<T>,
 }
 
@@ -46,7 +46,7 @@ impl<T: Tone, S: Selector> Card<T, S> {
     {
         Card {
             selector,
-            sheet: None,
+            opened: None,
             tones: PhantomData,
         }
     }
@@ -78,12 +78,12 @@ impl<T: Tone, S: Selector> Card<T, S> {
         if !(1..=8).contains(&stages) {
             return Err(Refusal::Size);
         }
-        let sheet = Sheet::fresh(frame, stages);
-        fits(&sheet, memory)?;
+        let opened = OpenCard::fresh(frame, stages);
+        fits(&opened, memory)?;
         if self.selector.range() < T::count() {
             return Err(Refusal::Range);
         }
-        self.sheet = Some(sheet);
+        self.opened = Some(opened);
         Ok(())
     }
 
@@ -96,9 +96,9 @@ impl<T: Tone, S: Selector> Card<T, S> {
         ensures kept { OnErr result (self.new ≡ self.old) }
         ensures in_order { StaysInOrder T.kind S.range S.ordered self.old self.new }
     {
-        let sheet = self.sheet.as_mut().ok_or(Refusal::Unopened)?;
-        fits(sheet, memory)?;
-        sheet.install::<T>(draft)
+        let opened = self.opened.as_mut().ok_or(Refusal::Unopened)?;
+        fits(opened, memory)?;
+        opened.install::<T>(draft)
     }
 
     /// Lays a rectangle of tones, given by its corner, width and height, over the raw card, row by row; the areas spread. Refused without a size (16), with memory of another length (14), where the rectangle is empty or not wholly on the card (17), and with a wrong count of tones (18).
@@ -118,9 +118,9 @@ impl<T: Tone, S: Selector> Card<T, S> {
         ensures kept { OnErr result (self.new ≡ self.old) }
         ensures in_order { StaysInOrder T.kind S.range S.ordered self.old self.new }
     {
-        let sheet = self.sheet.as_mut().ok_or(Refusal::Unopened)?;
-        fits(sheet, memory)?;
-        sheet.patch::<T>(memory, x, y, width, height, tones)
+        let opened = self.opened.as_mut().ok_or(Refusal::Unopened)?;
+        fits(opened, memory)?;
+        opened.patch::<T>(memory, x, y, width, height, tones)
     }
 
     /// Redoes so many stale rows as the budget allows, and answers how many. Where that is none, the card is as it was, its selector too. Refused without a size (16) and with memory of another length (14).
@@ -136,12 +136,12 @@ impl<T: Tone, S: Selector> Card<T, S> {
     {
         let Card {
             selector,
-            sheet,
+            opened,
             ..
         } = self;
-        let sheet = sheet.as_mut().ok_or(Refusal::Unopened)?;
-        fits(sheet, memory)?;
-        Ok(sheet.work::<T, S>(selector, memory, budget))
+        let opened = opened.as_mut().ok_or(Refusal::Unopened)?;
+        fits(opened, memory)?;
+        Ok(opened.work::<T, S>(selector, memory, budget))
     }
 
     /// Hands out n tones of row y of the finished plane, from column x on: that part of the memory itself. Refused without a size (16), with memory of another length (14), where the piece is empty or not wholly on the card (17), and where it meets the last stage's stale area, with the first column met (22).
@@ -155,13 +155,13 @@ impl<T: Tone, S: Selector> Card<T, S> {
         ensures { let at = state_of S.weight self.now memory.now in
             Outcome T.kind at (Row x y n) (piece result) at }
     {
-        let sheet = self.sheet.as_ref().ok_or(Refusal::Unopened)?;
-        fits(sheet, memory)?;
-        Rect::on(sheet.frame().size, x, y, n, 1).ok_or(Refusal::Outside)?;
-        if let Some(column) = sheet.first_met(x, y, n) {
+        let opened = self.opened.as_ref().ok_or(Refusal::Unopened)?;
+        fits(opened, memory)?;
+        Rect::on(opened.frame().size, x, y, n, 1).ok_or(Refusal::Outside)?;
+        if let Some(column) = opened.first_met(x, y, n) {
             return Err(Refusal::Stale(column));
         }
-        let from = sheet.finished_at(x, y);
+        let from = opened.finished_at(x, y);
         Ok(&memory[from..from + n])
     }
 
@@ -170,7 +170,7 @@ impl<T: Tone, S: Selector> Card<T, S> {
         ensures { let at = state_of S.weight self.now in
             (m : List T.Row) → Outcome T.kind (at m) Left (Number result) (at m) }
     {
-        self.sheet.as_ref().map_or(0, |sheet| sheet.rows_left())
+        self.opened.as_ref().map_or(0, |opened| opened.rows_left())
     }
 
     /// The stage, counted from 1, and the row that is redone next, or nothing.
@@ -178,29 +178,29 @@ impl<T: Tone, S: Selector> Card<T, S> {
         ensures { let at = state_of S.weight self.now in
             (m : List T.Row) → Outcome T.kind (at m) Due (Next result) (at m) }
     {
-        self.sheet.as_ref()?.next()
+        self.opened.as_ref()?.next()
     }
 
     /// The size, once the card has one.
     pub fn size(&self) -> Option<Size>
         ensures { result ≡ option_map (λ n. n.size) (notes self.now) }
     {
-        Some(self.sheet.as_ref()?.frame().size)
+        Some(self.opened.as_ref()?.frame().size)
     }
 
     /// The most stages that a recipe of the card may have, once it has a size.
     pub fn stages(&self) -> Option<usize>
         ensures { result ≡ option_map (λ n. n.most) (notes self.now) }
     {
-        Some(self.sheet.as_ref()?.most())
+        Some(self.opened.as_ref()?.most())
     }
 
     /// The stages of the recipe in force: none without a size.
     pub fn recipe(&self) -> &[Stage]
         ensures { result.now ≡ recipe_of (notes self.now) }
     {
-        match &self.sheet {
-            Some(sheet) => sheet.recipe(),
+        match &self.opened {
+            Some(opened) => opened.recipe(),
             None => &[],
         }
     }
@@ -225,12 +225,12 @@ pub fn memory_len(width: usize, height: usize, stages: usize) -> Option<usize>
     Some(frame.start(stages + 1))
 }
 
-/// Refused with memory of another length than the sheet's (14). The test of the sheet before it stands in each call, by a
-/// line: one that hands out the sheet to be changed would hold the selector too, which `work` needs.
-pub(crate) fn fits<R>(sheet: &Sheet, memory: &[R]) -> Result<(), Refusal>
-    ensures { result ≡ (if length memory.now == room (notes_of sheet.now) then Ok tt else Err Memory) }
+/// Refused with memory of another length than the open card's (14). The test before it, whether the card is open, stands in
+/// each call, by a line: one that hands out the open card to be changed would hold the selector too, which `work` needs.
+pub(crate) fn fits<R>(opened: &OpenCard, memory: &[R]) -> Result<(), Refusal>
+    ensures { result ≡ (if length memory.now == room (notes_of opened.now) then Ok tt else Err Memory) }
 {
-    if memory.len() == sheet.room() {
+    if memory.len() == opened.room() {
         Ok(())
     } else {
         Err(Refusal::Memory)

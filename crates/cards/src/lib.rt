@@ -4,7 +4,9 @@
 
 pub mod card;
 pub mod faults;
+mod laying;
 pub mod loading;
+mod open_card;
 pub mod refused;
 pub mod residues;
 

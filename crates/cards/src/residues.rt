@@ -16,15 +16,15 @@ impl<S: Selector> Card<Grey, S> {
         ensures answer { done result ≡ residue_answer (notes self.now) memory.now (length reliefs.old) }
         ensures reliefs { reliefs.new ≡ residue_after (notes self.now) memory.now reliefs.old }
     {
-        let sheet = self.sheet.as_ref().ok_or(Refusal::Unopened)?;
-        fits(sheet, memory)?;
-        if reliefs.len() != sheet.frame().area() {
+        let opened = self.opened.as_ref().ok_or(Refusal::Unopened)?;
+        fits(opened, memory)?;
+        if reliefs.len() != opened.frame().area() {
             return Err(Refusal::Count);
         }
-        if sheet.rows_left() > 0 {
+        if opened.rows_left() > 0 {
             return Err(Refusal::Stale(0));
         }
-        subtract(memory, sheet.finished(), reliefs);
+        subtract(memory, opened.finished(), reliefs);
         Ok(())
     }
 }

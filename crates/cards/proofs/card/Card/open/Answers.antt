@@ -5,15 +5,15 @@ use Rattle.calls.specs.Calls.{room}
 use Rattle.calls.specs.Opening.{fresh}
 use Rattle.filters.proofs.Laws.{laws_hold}
 use Rattle.calls.proofs.Promises.{keeps_promise}
-use Rattle.sheets.specs.Meanings.{notes_of}
+use Rattle.cards.specs.OpenCards.{notes_of}
 use Rattle.cards.proofs.card.Card.open.Goals as goal
 
 pub returns-clause-promise : goal.returns-clause-promise
 returns-clause-promise g c =
     let size : Size = record { width = c.args.width; height = c.args.height } in
     let sized : c.in_ok-frame.frame.size ≡ size = search rules in
-    let made : notes_of c.fresh-sheet.result ≡ fresh c.args.width c.args.height c.args.stages = c.fresh-sheet.ensures ∙ ap (λ (z : Size). fresh z.width z.height c.args.stages) sized in
-    let long : length c.args.memory.now ≡ room (notes_of c.fresh-sheet.result) = search rules in
+    let made : notes_of c.fresh-opened.result ≡ fresh c.args.width c.args.height c.args.stages = c.fresh-opened.ensures ∙ ap (λ (z : Size). fresh z.width z.height c.args.stages) sized in
+    let long : length c.args.memory.now ≡ room (notes_of c.fresh-opened.result) = search rules in
     keeps_promise g.T.Tone.kind g.met.T.Tone.lawful size c.args.stages _ (record {
       notes = ap Some made;
       limits = subst Limits sized c.in_ok-frame.frame.within;
