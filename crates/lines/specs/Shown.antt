@@ -1,5 +1,5 @@
--- The line that shows each answer and each fault. Assumes nothing.
-use Rattle.std.specs.Prelude.{ℕ, List, ◌++◌, Some, None, Option, codes, encode_utf8, string_bytes}
+-- The line that shows each answer and each fault, and the last line. Assumes nothing.
+use Rattle.std.specs.Prelude.{ℕ, List, [], ◌++◌, Some, None, Option, codes, encode_utf8, string_bytes}
 use Rattle.std.specs.Fmt.{decimal}
 use Rattle.calls.specs.Refusals.{refusal_number}
 use Rattle.calls.specs.declared.refusals.Refusal.{Refusal}
@@ -12,6 +12,7 @@ use Rattle.lines.specs.declared.answers.Answer.{Answer}
 use Rattle.lines.specs.declared.answers.Answer.TheVariants as told
 use Rattle.lines.specs.declared.answers.Fault.{Fault}
 use Rattle.lines.specs.declared.answers.Fault.TheVariants as fault
+use Rattle.lines.specs.declared.tally.Summary.{Summary}
 
 -- the stage and the row that are next
 abbrev pub due_line : Option (ℕ × ℕ) → List ℕ
@@ -43,6 +44,7 @@ load_line None n spot = codes "refused load card " ++ decimal n ++ codes " " ++ 
 -- a fault
 abbrev pub fault_line : Fault → List ℕ
 fault_line fault.Unknown = codes "unknown"
+fault_line fault.Unreadable = codes "unreadable"
 fault_line (fault.Element e) = refused_line (element_number e)
 fault_line (fault.Draft e) = refused_line (draft_number e)
 fault_line (fault.Selector e) = refused_line (call_number e)
@@ -50,3 +52,19 @@ fault_line (fault.Card e) = card_line e
 fault_line (fault.Load e) = load_line (load_letter e) (load_number e) (load_spot e)
 fault_line (fault.Tone e) = refused_line (tone_number e)
 fault_line (fault.Memory e) = codes "no memory"
+
+-- the calls, the refused ones among them, and the rows that are left
+abbrev pub played_text : ℕ → ℕ → ℕ → List ℕ
+played_text played refused left = codes "played " ++ decimal played ++ codes " calls, "
+    ++ decimal refused ++ codes " refused, " ++ decimal left ++ codes " left"
+
+-- the lines that were not read, with the number of the first; nothing where there are none
+abbrev pub unknown_text : ℕ → Option ℕ → List ℕ
+unknown_text count None = []
+unknown_text count (Some first) =
+    codes ", " ++ decimal count ++ codes " unknown, the first in line " ++ decimal first
+
+-- the last line
+abbrev pub last_line : Summary → List ℕ
+last_line s = played_text s.tally.played s.tally.refused s.left
+    ++ unknown_text s.tally.unknown s.tally.first

@@ -1,4 +1,5 @@
--- What is told of the result of each call, and how the calls are counted. Assumes nothing.
+-- What is told of the result of each call, and how the calls and the unknown lines are counted.
+-- Assumes nothing.
 use Rattle.std.specs.Prelude.{◌≡◌, ℕ, ◌+◌, ◌%◌, ◌^◌, Ok, Err, Some, None, Option, Result}
 use Rattle.calls.specs.declared.refusals.Refusal.{Refusal}
 use Rattle.selectors.specs.declared.calls.CallRefusal.{CallRefusal}
@@ -47,10 +48,12 @@ selector_told = told_of reply_answer fault.Selector
 abbrev pub one_more : ℕ → ℕ
 one_more n = (n + 1) % 2 ^ 64
 
--- the calls played after a line: one that is not read, or for which there is no memory, is none
+-- the calls played after a line: one that is not read, whose file is not, or for which there is no
+-- memory, is none
 abbrev pub played_after : Result Answer Fault → ℕ → ℕ
 played_after (Ok a) n = one_more n
 played_after (Err fault.Unknown) n = n
+played_after (Err fault.Unreadable) n = n
 played_after (Err (fault.Memory e)) n = n
 played_after (Err (fault.Element e)) n = one_more n
 played_after (Err (fault.Draft e)) n = one_more n
@@ -63,3 +66,15 @@ played_after (Err (fault.Tone e)) n = one_more n
 abbrev pub refused_after : Result Answer Fault → ℕ → ℕ
 refused_after (Ok a) n = n
 refused_after (Err f) n = played_after (Err f) n
+
+-- the lines that were not read, or whose files were not, after a line
+abbrev pub unknown_after : Result Answer Fault → ℕ → ℕ
+unknown_after (Err fault.Unknown) n = one_more n
+unknown_after (Err fault.Unreadable) n = one_more n
+unknown_after told n = n
+
+-- the number of the first of them, after a line of this number
+abbrev pub first_after : Result Answer Fault → ℕ → Option ℕ → Option ℕ
+first_after (Err fault.Unknown) line None = Some line
+first_after (Err fault.Unreadable) line None = Some line
+first_after told line first = first

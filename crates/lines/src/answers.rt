@@ -60,6 +60,8 @@ impl fmt::Display for Answer {
 pub enum Fault {
     /// The line was not read.
     Unknown,
+    /// The file was not read.
+    Unreadable,
     /// A call on the element was refused.
     Element(ElementRefusal),
     /// A step was refused.
@@ -138,6 +140,7 @@ impl fmt::Display for Fault {
     fn fmt<W: fmt::Write>(&self, f: &mut fmt::Formatter<W>) -> fmt::Result {
         match self {
             Fault::Unknown => write!(f, "unknown"),
+            Fault::Unreadable => write!(f, "unreadable"),
             Fault::Element(refusal) => write!(f, "refused {}", refusal.number()),
             Fault::Draft(refusal) => write!(f, "refused {}", refusal.number()),
             Fault::Selector(refusal) => write!(f, "refused {}", refusal.number()),

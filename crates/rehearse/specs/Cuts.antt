@@ -1,8 +1,17 @@
--- How a text is cut into words. Assumes nothing.
-use Rattle.std.specs.Prelude.{◌≡◌, ℕ, ◌<◌, List, [], ◌∷◌, ◌++◌, length}
-use Rattle.std.specs.Char.{is_not_whitespace, is_whitespace}
+-- Which lines are comments, and how a text is cut into words. Assumes nothing.
+use Rattle.std.specs.Prelude.{◌≡◌, ℕ, ◌<◌, Bool, List, [], ◌∷◌, ◌++◌, length, codes, drop, nat_eq}
+use Rattle.std.specs.Char.{is_ascii_whitespace, is_not_whitespace, is_whitespace}
+use Rattle.std.specs.List.{prefix_len, starts_with}
 use Rattle.std.specs.Str.{EmptyOrStartsWithPassing, NoCharPasses}
 use Rattle.lines.specs.Words.{Rest}
+
+-- a line without the blanks at its start
+abbrev pub after_blanks : List ℕ → List ℕ
+after_blanks line = drop (prefix_len is_ascii_whitespace line) line
+
+-- a comment: its first byte after blanks is #
+abbrev pub is_comment : List ℕ → Bool
+is_comment line = starts_with nat_eq (after_blanks line) (codes "#")
 
 -- a word without white space, with white space alone before it, and after it the end or white space
 abbrev pub IsWord : List ℕ → List ℕ → List ℕ → Type 0

@@ -133,11 +133,10 @@ abbrev pub load_told : Result (Unit {0}) Fault → Result Answer Fault
 load_told (Ok _) = Ok told.Done
 load_told (Err f) = Err f
 
--- a load of a file, if there is one
+-- a load of a file, or of none where it could not be read
 abbrev pub LoadsFile : {R : Type 0} → Scripted R → State R
     → ℕ → ℕ → Option (List ℕ) → Result Answer Fault → State R → Type 0
-LoadsFile W s x y None r t = (r ≡ Err Unknown) × (t ≡ s)
-LoadsFile W s x y (Some file) r t =
+LoadsFile W s x y file r t =
     (l : Result (Unit {0}) Fault) × (r ≡ load_told l) × W.loads s x y file l t
 
 -- the tone of the parts that the words write: its code, or the refusal where no tone has them

@@ -1,5 +1,5 @@
 -- What a line of words does to a player and a desk, and what is told of it. Assumes nothing.
-use Rattle.std.specs.Prelude.{◌≡◌, ◌⊎◌, ℕ, List, [], ◌∷◌, ◌++◌, codes, Err, Result}
+use Rattle.std.specs.Prelude.{◌≡◌, ◌≢◌, ◌⊎◌, ℕ, List, [], ◌∷◌, false, true, Err, Result}
 use Rattle.std.specs.Borrow.{Bor}
 use Rattle.tones.specs.Kind.{Kind}
 use Rattle.recipes.specs.Placed.{placed}
@@ -14,7 +14,7 @@ use Rattle.lines.specs.declared.commands.Command.{Command}
 use Rattle.lines.specs.declared.commands.Command.TheVariants.{Choose, OnElement, OnDraft, OnCard, OnSelector}
 use Rattle.lines.specs.declared.desk.Desk.{Desk}
 use Rattle.std.specs.Str.{IsUtf8}
-use Rattle.rehearse.specs.Cuts.{CutInto}
+use Rattle.rehearse.specs.Cuts.{CutInto, is_comment}
 use Rattle.rehearse.specs.Plays.{Made, Ranks, draft_after}
 use Rattle.rehearse.specs.Seen.{Seen, stands}
 use Rattle.texts.specs.Scripted.{Scripted}
@@ -26,14 +26,9 @@ abbrev pub Asks : Rest → Command → Type 0
 Asks ws c =
     (name : Bor (List ℕ)) × (others : Rest) × (ws ≡ name ∷ others) × Says name.now others c
 
--- there are no words, or the first begins with #
-abbrev pub Empty : Rest → Type 0
-Empty ws = (ws ≡ []) ⊎ ((name : Bor (List ℕ)) × (others : Rest) × (ws ≡ name ∷ others)
-    × ((more : List ℕ) × (name.now ≡ codes "#" ++ more)))
-
--- there are words, the first begins otherwise, and they say no command
+-- there are words, and they say no command
 abbrev pub SaysNothing : Rest → Type 0
-SaysNothing ws = (Empty ws → ⊥) × ((c : Command) → Asks ws c → ⊥)
+SaysNothing ws = (ws ≢ []) × ((c : Command) → Asks ws c → ⊥)
 
 module _ {T R S : Type 0} (K : Kind T R) (W : Scripted R) (Zero : R → Type 0)
     (weight : S → ℕ → ℕ) (range : S → ℕ) where
@@ -56,16 +51,22 @@ module _ {T R S : Type 0} (K : Kind T R) (W : Scripted R) (Zero : R → Type 0)
       × Made K W Zero (range p.card.selector) (stands weight p) p.area d.draft call r
       (stands weight q) q.area
 
-  -- a line is passed over, asks for another card, or is told: its command is played, or it is not
-  -- read
+  -- a line without words is passed over; one with words asks for another card, or is told: its
+  -- command is played, or it is not read
   abbrev pub Played : Rest → Seen T R S → Desk → Line → Seen T R S → Desk → Type 0
-  Played ws p d line.Empty q e = Empty ws × (q ≡ p) × (e ≡ d)
+  Played ws p d line.Empty q e = (ws ≡ []) × (q ≡ p) × (e ≡ d)
   Played ws p d (line.Next c) q e = Asks ws (Choose c) × (q ≡ p) × (e ≡ d)
   Played ws p d (line.Told r) q e = (SaysNothing ws × (r ≡ Err Unknown) × (q ≡ p) × (e ≡ d))
       ⊎ ((c : Command) × Asks ws c × Commanded p d c r q e)
 
-  -- a line of these bytes is played: the words that it is cut into, or it is no text, and not read
-  abbrev pub LinePlayed : List ℕ → Seen T R S → Desk → Line → Seen T R S → Desk → Type 0
-  LinePlayed bytes p d l q e =
+  -- a text is played: the words that it is cut into; a line that is no text is not read
+  abbrev pub TextPlayed : List ℕ → Seen T R S → Desk → Line → Seen T R S → Desk → Type 0
+  TextPlayed bytes p d l q e =
       (¬ (IsUtf8 bytes) × (l ≡ line.Told (Err Unknown)) × (q ≡ p) × (e ≡ d))
       ⊎ (IsUtf8 bytes × ((ws : Rest) × CutInto bytes ws × Played ws p d l q e))
+
+  -- a line of these bytes is played: a comment is passed over, text or not
+  abbrev pub LinePlayed : List ℕ → Seen T R S → Desk → Line → Seen T R S → Desk → Type 0
+  LinePlayed bytes p d l q e =
+      ((is_comment bytes ≡ true) × (l ≡ line.Empty) × (q ≡ p) × (e ≡ d))
+      ⊎ ((is_comment bytes ≡ false) × TextPlayed bytes p d l q e)

@@ -9,15 +9,38 @@ mod session;
 use lines::answers::Answer;
 use lines::commands::{Choice, Tones};
 use lines::desk::Desk;
-use lines::tally::Tally;
+use lines::tally::{Summary, Tally};
 use script::Script;
 use selectors::calls::Kind;
 use selectors::{Gate, Histogram, Ladder};
 use session::{Evening, session};
-use std::io;
 use std::ops::ControlFlow;
+use std::process::ExitCode;
+use std::{env, io};
 use texts::rows::Rows;
 use tones::{Colour, Grey, Mark, Relief, Tone};
+
+/// What `--help` prints.
+const USAGE: &str = "usage: rehearse < SCRIPT
+
+Plays a script of calls on a card, one command a line, and prints every answer:
+
+  card KIND SELECTOR            a new card: mark, grey, relief, colour; gate, histogram, ladder
+  open W H G ROWS..             a size and at most G stages; the rows of plane 0, or none for all zero
+  element                       a new element: the origin alone
+  place DX DY core|soft A       a place more           amount DX DY A     another amount
+  order K                       the order index        standard I         a standard shape
+  begin N                       a draft of N steps     step LETTER        E, D, O or C with the present element
+  install                       hands the draft to the card
+  patch X Y W H ROWS..          letters a rectangle    load X Y PATH      a raw PGM file (grey cards)
+  work B                        redoes at most B rows
+  row X Y N                     hands out N tones      residue            raw minus finished (grey cards)
+  left, due                     stale rows; the next stage and row
+  tone PARTS                    the code of a tone     put, total, select, empty   a selector alone
+
+Empty lines and comments, which begin with `#`, are passed over. A line that is no command
+prints `unknown`, a `load` whose file cannot be read `unreadable`.
+";
 
 /// A session on a card of these tones, with the selector that is chosen.
 fn with_selector<T: Rows>(
@@ -63,14 +86,27 @@ fn sessions(rt: &HostRuntime, evening: &mut Evening) -> io::Result<usize> {
     Ok(0)
 }
 
-fn main(rt: HostRuntime) -> io::Result<()> {
+/// Plays the script on standard input, and says the last line.
+fn rehearse(rt: &HostRuntime) -> io::Result<()> {
     let mut evening = Evening {
-        script: Script::new(&rt)?,
+        script: Script::new(rt)?,
         desk: Desk::new(),
         tally: Tally::new(),
     };
-    let left = sessions(&rt, &mut evening)?;
-    let played = evening.tally.played;
-    let refused = evening.tally.refused;
-    println!(rt; "played {played} calls, {refused} refused, {left} left")
+    let left = sessions(rt, &mut evening)?;
+    let tally = evening.tally;
+    println!(rt; "{}", Summary { tally, left })
+}
+
+fn main(rt: HostRuntime) -> io::Result<ExitCode> {
+    let Some(argument) = env::args(&rt)?.nth(1) else {
+        rehearse(&rt)?;
+        return Ok(ExitCode::SUCCESS);
+    };
+    if matches!(argument.as_str(), "--help" | "-h") {
+        rt.print(USAGE)?;
+        return Ok(ExitCode::SUCCESS);
+    }
+    eprintln!(rt; "rehearse: unknown argument {argument}; usage: rehearse < SCRIPT")?;
+    Ok(ExitCode::FAILURE)
 }

@@ -192,16 +192,15 @@ impl<T: Rows, S: Selector> Player<T, S> {
         Ok(Answer::Rows(rows_shown::<Relief>(heap, reliefs.as_slice())?))
     }
 
-    /// Patches the card with a file; not read without one, or where the kind has no files.
+    /// Patches the card with a file; unreadable without one, not read where the kind has no files.
     pub fn load(&mut self, x: usize, y: usize, file: Option<Vec<u8>>) -> Result<Answer, Fault>
         ensures outcome { LoadsFile T.Rows.scripted (stands S.Selector.weight self.old)
             x y (option_map (λ bytes. bytes.items) file) result
             (stands S.Selector.weight self.new) }
         ensures kept { (self.new.area ≡ self.old.area) × (self.new.own ≡ self.old.own) }
     {
-        let bytes = file.ok_or(Fault::Unknown)?;
-        let memory = self.memory.as_mut_slice();
-        T::load(&mut self.card, memory, x, y, bytes.as_slice())?;
+        let bytes = file.as_ref().map(|bytes| bytes.as_slice());
+        T::load(&mut self.card, self.memory.as_mut_slice(), x, y, bytes)?;
         Ok(Answer::Done)
     }
 

@@ -1,6 +1,7 @@
 //! The script: standard input, line by line.
 
-ghost use Rattle.rehearse.specs.Cuts.{CutInto};
+ghost use Rattle.lines.specs.Told.{one_more};
+ghost use Rattle.rehearse.specs.Cuts.{CutInto, is_comment};
 ghost use Rattle.std.specs.Io.{StopsAt};
 ghost use Rattle.std.specs.Prelude.{◌≡◌, ◌<◌, ◌≤◌, ◌↔◌, [], IfOk, IfSome, IsTrue, MatchOption, length};
 ghost use Rattle.std.specs.Str.{IsUtf8};
@@ -13,21 +14,23 @@ use std::io::{BufRead, BufReader, Read, Stdin};
 /// The most bytes of a file that is loaded.
 pub const LONGEST: u64 = 1_048_576;
 
-/// The input, and the present line.
+/// The input, and the present line with its number, from 1. The number goes round at 2^64.
 #[derive(Drop)]
 pub struct Script {
     input: BufReader<Stdin>,
     line: Vec<u8>,
+    pub number: u64,
 }
 
 impl Script {
     /// The script on standard input.
     pub fn new(rt: &HostRuntime) -> io::Result<Script>
-        ensures { IfOk result (λ script. script.line.items ≡ []) }
+        ensures { IfOk result (λ script. (script.line.items ≡ []) × (script.number ≡ 0)) }
     {
         Ok(Script {
             input: BufReader::new(rt.alloc(), rt.stdin())?,
             line: Vec::new(rt.alloc()),
+            number: 0,
         })
     }
 
@@ -35,9 +38,18 @@ impl Script {
     pub fn advance(&mut self) -> io::Result<bool>
         ensures more { IfOk result (λ more. IsTrue more ↔ 0 < length self.new.line.items) }
         ensures line { StopsAt self.new.line.items 10 }
+        ensures number { self.new.number ≡ one_more self.old.number }
     {
         self.line.clear();
+        self.number = self.number.wrapping_add(1);
         Ok(self.input.read_until(b'\n', &mut self.line)? > 0)
+    }
+
+    /// Whether the present line is a comment: its first byte after blanks is `#`.
+    pub fn is_comment(&self) -> bool
+        ensures { result ≡ is_comment self.now.line.items }
+    {
+        self.line.as_slice().trim_ascii_start().starts_with(b"#")
     }
 
     /// The present line, where it is text.

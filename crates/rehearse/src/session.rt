@@ -2,7 +2,7 @@
 
 ghost use Rattle.std.specs.Prelude.{◌≡◌, IfErr, IfOk};
 ghost use Rattle.rehearse.specs.Seen.{stands};
-ghost use Rattle.lines.specs.Told.{played_after, refused_after};
+ghost use Rattle.lines.specs.Told.{first_after, played_after, refused_after, unknown_after};
 ghost use Rattle.rehearse.specs.Plays.{Made, draft_after};
 ghost use Rattle.rehearse.specs.Sessions.{LinePlayed, Played};
 
@@ -28,13 +28,16 @@ pub struct Evening {
 }
 
 impl Evening {
-    /// Counts what is told of a line, and prints it. Where there was no memory for a call, the program ends.
+    /// Counts what is told of the present line, and prints it. Where there was no memory for a call, the program ends.
     pub fn tell(&mut self, rt: &HostRuntime, told: Result<Answer, Fault>) -> io::Result<()>
         ensures played { self.new.tally.played ≡ played_after told self.old.tally.played }
         ensures refused { self.new.tally.refused ≡ refused_after told self.old.tally.refused }
+        ensures unknown { self.new.tally.unknown ≡ unknown_after told self.old.tally.unknown }
+        ensures first { self.new.tally.first
+            ≡ first_after told self.old.script.number self.old.tally.first }
         ensures kept { (self.new.desk ≡ self.old.desk) × (self.new.script ≡ self.old.script) }
     {
-        self.tally.count(&told);
+        self.tally.count(&told, self.script.number);
         match told {
             Ok(answer) => println!(rt; "{answer}"),
             Err(Fault::Memory(error)) => Err(error.into()),
@@ -98,9 +101,6 @@ fn play<T: Rows, S: Selector>(
     let [name, rest @ ..] = words else {
         return Line::Empty;
     };
-    if name.starts_with('#') {
-        return Line::Empty;
-    }
     let Some(command) = read_command(name, rest) else {
         return Line::Told(Err(Fault::Unknown));
     };
@@ -113,7 +113,7 @@ fn play<T: Rows, S: Selector>(
     }
 }
 
-/// Plays the present line. One that is no text is not read.
+/// Plays the present line. A comment is passed over, text or not; any other that is no text is not read.
 fn play_line<T: Rows, S: Selector>(
     rt: &HostRuntime,
     player: &mut Player<T, S>,
@@ -125,6 +125,9 @@ fn play_line<T: Rows, S: Selector>(
     ensures unplayed { IfErr result (λ _. (player.new ≡ player.old) × (evening.new.desk ≡ evening.old.desk)) }
     ensures kept { (evening.new.tally ≡ evening.old.tally) × (evening.new.script ≡ evening.old.script) }
 {
+    if evening.script.is_comment() {
+        return Ok(Line::Empty);
+    }
     let Some(text) = evening.script.text() else {
         return Ok(Line::Told(Err(Fault::Unknown)));
     };

@@ -1,5 +1,6 @@
 //! How the rows of each kind of tones are read and printed, and what only greys can do.
 
+ghost use Rattle.std.specs.Option.{option_map};
 ghost use Rattle.std.specs.Prelude.{◌≡◌, ◌≢◌, ◌++◌, IfOk, MatchResult, string_bytes};
 ghost use Rattle.cards.specs.Meanings.{InOrder, notes, state_of};
 ghost use Rattle.lines.specs.Words.{ReadsAll};
@@ -47,16 +48,17 @@ pub trait Rows: Tone<Row: Default> {
     ) -> Result<(), Fault>
         ensures { scripted.residues (notes card.now) memory.now reliefs.old result reliefs.new };
 
-    /// Patches a card with a file; not read where the kind has no files.
+    /// Patches a card with a file; not read where the kind has no files, unreadable where there is none.
     fn load<S: Selector>(
         card: &mut Card<Self, S>,
         memory: &mut [Self::Row],
         x: usize,
         y: usize,
-        file: &[u8],
+        file: Option<&[u8]>,
     ) -> Result<(), Fault>
         ensures outcome { let before = state_of S.Selector.weight card.old memory.old in
-            scripted.loads before x y file.now result (state_of S.Selector.weight card.new memory.new) }
+            scripted.loads before x y (option_map (λ bytes. bytes.now) file.entry) result
+            (state_of S.Selector.weight card.new memory.new) }
         ensures in_order { InOrder Self.Tone.kind S.Selector.range S.Selector.ordered card.old
             → InOrder Self.Tone.kind S.Selector.range S.Selector.ordered card.new };
 
@@ -102,7 +104,7 @@ impl Rows for Mark {
         _memory: &mut [bool],
         _x: usize,
         _y: usize,
-        _file: &[u8],
+        _file: Option<&[u8]>,
     ) -> Result<(), Fault> {
         Err(Fault::Unknown)
     }
@@ -154,9 +156,10 @@ impl Rows for Grey {
         memory: &mut [u8],
         x: usize,
         y: usize,
-        file: &[u8],
+        file: Option<&[u8]>,
     ) -> Result<(), Fault> {
-        Ok(card.load(memory, x, y, file)?)
+        let bytes = file.ok_or(Fault::Unreadable)?;
+        Ok(card.load(memory, x, y, bytes)?)
     }
 }
 
@@ -194,7 +197,7 @@ impl Rows for Relief {
         _memory: &mut [i16],
         _x: usize,
         _y: usize,
-        _file: &[u8],
+        _file: Option<&[u8]>,
     ) -> Result<(), Fault> {
         Err(Fault::Unknown)
     }
@@ -241,7 +244,7 @@ impl Rows for Colour {
         _memory: &mut [ColourRow],
         _x: usize,
         _y: usize,
-        _file: &[u8],
+        _file: Option<&[u8]>,
     ) -> Result<(), Fault> {
         Err(Fault::Unknown)
     }
