@@ -25,9 +25,9 @@ cause Unopened = codes "card without size"
 cause Outside = codes "empty or not wholly on the card"
 cause Count = codes "wrong count of tones"
 cause TooFewSteps = codes "fewer steps than declared"
-cause TooManyStages = codes "more stages than the card has"
+cause TooManyStages = codes "more stages than the card has room for"
 cause Amount = codes "amount outside the span of the tones"
-cause (Stale c) = codes "stale from this column on"
+cause (Stale c) = codes "stale, first at this column"
 
 -- the number and the cause, and where a piece is stale the first column met
 abbrev pub refusal_text : Refusal → List ℕ

@@ -23,7 +23,7 @@ pub enum Refusal {
     Count,
     /// The draft has fewer steps than declared.
     TooFewSteps,
-    /// The recipe has more stages than the card.
+    /// The recipe has more stages than the card has room for.
     TooManyStages,
     /// An amount is outside the span of the tones.
     Amount,
@@ -63,9 +63,9 @@ impl Refusal {
             Refusal::Outside => "empty or not wholly on the card",
             Refusal::Count => "wrong count of tones",
             Refusal::TooFewSteps => "fewer steps than declared",
-            Refusal::TooManyStages => "more stages than the card has",
+            Refusal::TooManyStages => "more stages than the card has room for",
             Refusal::Amount => "amount outside the span of the tones",
-            Refusal::Stale(_) => "stale from this column on",
+            Refusal::Stale(_) => "stale, first at this column",
         }
     }
 }

@@ -38,13 +38,16 @@ load_answer (Ok _) = Done
 load_answer (Err (File f)) = Refused 23
 load_answer (Err (Card e)) = refusal e
 
--- the load of a picture is the patch of its samples; a faulty file is refused with its fault and changes nothing
+-- the load of a picture is the patch of its samples; a faulty file is refused with its fault and
+-- changes nothing
 abbrev pub LoadsBy : Reading → State ℕ → ℕ → ℕ → Result (Unit {0}) LoadFault → State ℕ → Type 0
-LoadsBy (Shows width height maxval samples) from x y r to = Outcome greys from (Patch x y width height samples) (load_answer r) to
+LoadsBy (Shows width height maxval samples) from x y r to =
+    Outcome greys from (Patch x y width height samples) (load_answer r) to
 LoadsBy (Faulty f) from x y r to = (r ≡ Err (File f)) × (to ≡ from)
 
 -- the file is read as its one reading says
-pub record Loads (file : List ℕ) (from : State ℕ) (x y : ℕ) (r : Result (Unit {0}) LoadFault) (to : State ℕ) : Type 0 where
+pub record Loads (file : List ℕ) (from : State ℕ) (x y : ℕ)
+    (r : Result (Unit {0}) LoadFault) (to : State ℕ) : Type 0 where
   pub reading : Reading
   pub reads : Reads file reading
   pub outcome : LoadsBy reading from x y r to

@@ -25,10 +25,13 @@ abbrev pub state_of : {T S R : Type 0} → (S → ℕ → ℕ) → Card T S → 
 state_of weight c m = record { notes = notes c; weights = weight c.selector; memory = m }
 
 -- a card is in order: its selector is, and once it has a size the selector has a code for each tone
-pub record InOrder {T S R : Type 0} (K : Kind T R) (range : S → ℕ) (ordered : S → Type 0) (c : Card T S) : Type 0 where
+pub record InOrder {T S R : Type 0} (K : Kind T R)
+    (range : S → ℕ) (ordered : S → Type 0) (c : Card T S) : Type 0 where
   pub selector : ordered c.selector
   pub codes : is_some c.opened ≡ true → K.count ≤ range c.selector
 
 -- a card that is in order stays so
-abbrev pub StaysInOrder : {T S R : Type 0} → Kind T R → (S → ℕ) → (S → Type 0) → Card T S → Card T S → Type 0
-StaysInOrder K range ordered before after = InOrder K range ordered before → InOrder K range ordered after
+abbrev pub StaysInOrder : {T S R : Type 0} → Kind T R → (S → ℕ) → (S → Type 0)
+    → Card T S → Card T S → Type 0
+StaysInOrder K range ordered before after =
+    InOrder K range ordered before → InOrder K range ordered after

@@ -9,7 +9,12 @@ use Rattle.calls.specs.Calls.{Notes, Open, room}
 use Rattle.cards.specs.declared.open_card.OpenCard.{OpenCard}
 
 abbrev pub notes_of : OpenCard → Notes
-notes_of s = record { size = s.areas.frame.size; most = s.most; recipe = staged s.recipe; areas = listed s.areas }
+notes_of s = record {
+  size = s.areas.frame.size;
+  most = s.most;
+  recipe = staged s.recipe;
+  areas = listed s.areas;
+}
 
 -- an open card with the weights of a selector and with memory
 abbrev pub open_of : {R : Type 0} → OpenCard → (ℕ → ℕ) → List R → Open R
@@ -21,5 +26,7 @@ pub record Stands (s : OpenCard) (stage : ℕ) (rect : Rect) : Type 0 where
   pub from : 1 ≤ stage
   pub to : stage ≤ length (staged s.recipe)
   pub fits : Fits s.areas.frame.size rect
-  pub apart : start s.areas.frame.size (stage - 1) + area s.areas.frame.size ≤ start s.areas.frame.size stage
+  pub apart :
+      start s.areas.frame.size (stage - 1) + area s.areas.frame.size
+      ≤ start s.areas.frame.size stage
   pub within : start s.areas.frame.size stage + area s.areas.frame.size ≤ room (notes_of s)

@@ -17,8 +17,10 @@ use selectors::Selector;
 use std::marker::PhantomData;
 use tones::Tone;
 
-/// A card of tones T with a selector S. Once it has a size it is an open card; its tones lie in memory that each call is lent.
-/// That its selector is in order is no invariant: a card may be made of any selector, and each call says that it keeps what holds.
+/// A card of tones T with a selector S. Once it has a size it is an open card; its tones lie in memory that each
+/// call is lent.
+/// That its selector is in order is no invariant: a card may be made of any selector, and each call says that it
+/// keeps what holds.
 #[derive(Drop)]
 pub struct Card<T, S> {
     pub(crate) selector: S,
@@ -51,9 +53,12 @@ impl<T: Tone, S: Selector> Card<T, S> {
         }
     }
 
-    /// Gives the card a size: an empty recipe, nothing stale. A card may be opened again: it starts over. Refused where the size or the number of stages is outside its limits (13), with memory of another length (14), and where the selector's range is smaller than the number of tones (15).
+    /// Gives the card a size: an empty recipe, nothing stale. A card may be opened again: it starts over.
+    /// Refused where the size or the number of stages is outside its limits (13), with memory of another length
+    /// (14), and where the selector's range is smaller than the number of tones (15).
     ///
-    /// What the card promises of every run of calls from there on is the clause `promise`; what the stages of every recipe make keeps the laws of soft morphology (`laws`).
+    /// What the card promises of every run of calls from there on is the clause `promise`; what the stages of
+    /// every recipe make keeps the laws of soft morphology (`laws`).
     pub fn open(
         &mut self,
         memory: &[T::Row],
@@ -62,8 +67,9 @@ impl<T: Tone, S: Selector> Card<T, S> {
         stages: usize,
     ) -> Result<(), Refusal>
         ensures answer { let range = S.range (selector_of self.old) in
+            let long = length memory.now in
             done {R = T.Row} result
-            ≡ done_unless (open_refusal T.kind.count range (length memory.now) width height stages) }
+            ≡ done_unless (open_refusal T.kind.count range long width height stages) }
         ensures notes { let range = S.range (selector_of self.old) in
             let refusal = open_refusal T.kind.count range (length memory.now) width height stages in
             notes self.new ≡ kept_if refusal (notes self.old) (Some (fresh width height stages)) }
@@ -87,7 +93,9 @@ impl<T: Tone, S: Selector> Card<T, S> {
         Ok(())
     }
 
-    /// Replaces the recipe by that of the draft, which is used up; every stage's area is the whole card. Refused without a size (16), with memory of another length (14), with fewer steps than declared (19), more stages than the card has planes for (20), or an amount outside the span (21).
+    /// Replaces the recipe by that of the draft, which is used up; every stage's area is the whole card. Refused
+    /// without a size (16), with memory of another length (14), with fewer steps than declared (19), more stages
+    /// than the card has planes for (20), or an amount outside the span (21).
     pub fn install(&mut self, memory: &[T::Row], draft: Draft) -> Result<(), Refusal>
         ensures outcome { let from = state_of S.weight self.old memory.now in
             let to = state_of S.weight self.new memory.now in
@@ -101,7 +109,9 @@ impl<T: Tone, S: Selector> Card<T, S> {
         opened.install::<T>(draft)
     }
 
-    /// Lays a rectangle of tones, given by its corner, width and height, over the raw card, row by row; the areas spread. Refused without a size (16), with memory of another length (14), where the rectangle is empty or not wholly on the card (17), and with a wrong count of tones (18).
+    /// Lays a rectangle of tones, given by its corner, width and height, over the raw card, row by row; the
+    /// areas spread. Refused without a size (16), with memory of another length (14), where the rectangle is
+    /// empty or not wholly on the card (17), and with a wrong count of tones (18).
     pub fn patch(
         &mut self,
         memory: &mut [T::Row],
@@ -123,7 +133,8 @@ impl<T: Tone, S: Selector> Card<T, S> {
         opened.patch::<T>(memory, x, y, width, height, tones)
     }
 
-    /// Redoes so many stale rows as the budget allows, and answers how many. Where that is none, the card is as it was, its selector too. Refused without a size (16) and with memory of another length (14).
+    /// Redoes so many stale rows as the budget allows, and answers how many. Where that is none, the card is as
+    /// it was, its selector too. Refused without a size (16) and with memory of another length (14).
     pub fn work(&mut self, memory: &mut [T::Row], budget: usize) -> Result<usize, Refusal>
         requires { InOrder T.kind S.range S.ordered self.old }
         ensures outcome { let from = state_of S.weight self.old memory.old in
@@ -144,7 +155,9 @@ impl<T: Tone, S: Selector> Card<T, S> {
         Ok(opened.work::<T, S>(selector, memory, budget))
     }
 
-    /// Hands out n tones of row y of the finished plane, from column x on: that part of the memory itself. Refused without a size (16), with memory of another length (14), where the piece is empty or not wholly on the card (17), and where it meets the last stage's stale area, with the first column met (22).
+    /// Hands out n tones of row y of the finished plane, from column x on: that part of the memory itself.
+    /// Refused without a size (16), with memory of another length (14), where the piece is empty or not wholly
+    /// on the card (17), and where it meets the last stage's stale area, with the first column met (22).
     pub fn row<'a>(
         &self,
         memory: &'a [T::Row],
@@ -213,7 +226,8 @@ impl<T: Tone, S: Selector> Card<T, S> {
     }
 }
 
-/// The rows of memory that a card of a size and a most number of stages is lent; nothing where they are outside their limits.
+/// The rows of memory that a card of a size and a most number of stages is lent; nothing where they are outside
+/// their limits.
 pub fn memory_len(width: usize, height: usize, stages: usize) -> Option<usize>
     ensures { result ≡ memory_of width height stages }
 {
@@ -225,10 +239,13 @@ pub fn memory_len(width: usize, height: usize, stages: usize) -> Option<usize>
     Some(frame.start(stages + 1))
 }
 
-/// Refused with memory of another length than the open card's (14). The test before it, whether the card is open, stands in
-/// each call, by a line: one that hands out the open card to be changed would hold the selector too, which `work` needs.
+/// Refused with memory of another length than the open card's (14). The test before it, whether the card is
+/// open, stands in
+/// each call, by a line: one that hands out the open card to be changed would hold the selector too, which
+/// `work` needs.
 pub(crate) fn fits<R>(opened: &OpenCard, memory: &[R]) -> Result<(), Refusal>
-    ensures { result ≡ (if length memory.now == room (notes_of opened.now) then Ok tt else Err Memory) }
+    ensures { result
+        ≡ (if length memory.now == room (notes_of opened.now) then Ok tt else Err Memory) }
 {
     if memory.len() == opened.room() {
         Ok(())

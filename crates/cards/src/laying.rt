@@ -25,7 +25,9 @@ pub(crate) fn lay<T: Tone>(memory: &mut [T::Row], frame: Frame, rect: Rect, tone
     requires rect { Fits frame.size rect }
     requires count { length tones.now ≡ (rect.right - rect.left) * (rect.bottom - rect.top) }
     requires room { area frame.size ≤ length memory.old }
-    ensures { memory.new ≡ laid T.kind frame.size rect.left rect.top (rect.right - rect.left) tones.now memory.old (rect.bottom - rect.top) }
+    ensures { let width = rect.right - rect.left in
+        let height = rect.bottom - rect.top in
+        memory.new ≡ laid T.kind frame.size rect.left rect.top width tones.now memory.old height }
 {
     let width = rect.right - rect.left;
     for (row, y) in tones.chunks(width).zip(rect.top..rect.bottom) {

@@ -12,7 +12,8 @@ use selectors::Selector;
 use tones::Grey;
 
 impl<S: Selector> Card<Grey, S> {
-    /// Reads a raw PGM file and patches its tones at column x and row y. Refused with the file's fault (23) before all else, then as the patch is.
+    /// Reads a raw PGM file and patches its tones at column x and row y. Refused with the file's fault (23)
+    /// before all else, then as the patch is.
     pub fn load(
         &mut self,
         memory: &mut [u8],

@@ -1,4 +1,5 @@
-//! An open card: what a card notes once it has a size, and what its calls do then: laying a patch, replacing the recipe,
+//! An open card: what a card notes once it has a size, and what its calls do then: laying a patch, replacing the
+//! recipe,
 //! redoing rows.
 
 ghost use Rattle.std.specs.Prelude.{◌≡◌, ◌≤◌, length};
@@ -17,7 +18,8 @@ use stages::pass::Pass;
 use stages::window::Window;
 use tones::Tone;
 
-/// The size (with the areas), the most stages that there are planes for, the recipe in force, and the stale area of each of its stages.
+/// The size (with the areas), the most stages that there are planes for, the recipe in force, and the stale area
+/// of each of its stages.
 #[derive(Clone, Copy)]
 pub struct OpenCard {
     pub(crate) most: usize,
@@ -28,7 +30,8 @@ pub struct OpenCard {
     ghost matched: { length (listed areas) ≡ length (staged recipe) },
 }
 
-// The selector's two facts stand in each contract, as in `stages::window`; so does the room, since the memory is lent anew to each call.
+// The selector's two facts stand in each contract, as in `stages::window`; so does the room, since the memory is
+// lent anew to each call.
 impl OpenCard {
     ghost use Rattle.std.specs.Prelude.{ℕ, ◌+◌, ◌-◌, ◌<◌, List, IfSome, OnErr};
     ghost use Rattle.areas.specs.Areas.{dropped, last_area, lowest, met, next_of, stale_rows};
@@ -72,7 +75,8 @@ impl OpenCard {
         areas.spread(recipe.stages(), rect);
     }
 
-    /// Lays a patch over the raw card; the areas spread. Refused where the rectangle is empty or not wholly on the card (17), then where the count of tones is wrong (18).
+    /// Lays a patch over the raw card; the areas spread. Refused where the rectangle is empty or not wholly on
+    /// the card (17), then where the count of tones is wrong (18).
     pub fn patch<T: Tone>(
         &mut self,
         memory: &mut [T::Row],
@@ -104,7 +108,9 @@ impl OpenCard {
         Ok(())
     }
 
-    /// Replaces the recipe by that of the draft, which is used up. Refused where the draft has fewer steps than declared (19), then where it has more stages than there are planes for (20), then where an amount is outside the span (21).
+    /// Replaces the recipe by that of the draft, which is used up. Refused where the draft has fewer steps than
+    /// declared (19), then where it has more stages than there are planes for (20), then where an amount is
+    /// outside the span (21).
     pub fn install<T: Tone>(&mut self, draft: Draft) -> Result<(), Refusal>
         ensures answer { (w : ℕ → ℕ) (m : List T.Row) →
             done result ≡ answer_open T.kind (open_of self.old w m) (Install draft) }
@@ -128,7 +134,8 @@ impl OpenCard {
         requires order { S.ordered selector.old }
         requires codes { T.kind.count ≤ S.range selector.old }
         requires room { length memory.old ≡ room (notes_of self.old) }
-        ensures notes { notes_of self.new ≡ with_areas (notes_of self.old) (dropped (listed self.old.areas)) }
+        ensures notes { let before = notes_of self.old in
+            notes_of self.new ≡ with_areas before (dropped before.areas) }
         ensures memory { let before = notes_of self.old in
             memory.new ≡ task_made T.kind before.size (task before) memory.old }
         ensures weights { let before = notes_of self.old in
@@ -149,7 +156,8 @@ impl OpenCard {
         self.areas.drop_row();
     }
 
-    /// Redoes so many stale rows as the budget allows, and answers how many. Where that is none, everything is as it was.
+    /// Redoes so many stale rows as the budget allows, and answers how many. Where that is none, everything is
+    /// as it was.
     pub fn work<T: Tone, S: Selector>(
         &mut self,
         selector: &mut S,

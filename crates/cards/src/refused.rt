@@ -1,15 +1,17 @@
 //! Any refusal of the library in one type, so that `?` serves a caller of several crates.
 
 ghost use Rattle.cards.specs.Refused.{any_number};
+ghost use Rattle.cards.specs.declared.faults.LoadFault.TheVariants as load;
 ghost use Rattle.cards.specs.declared.refused.AnyRefusal.TheVariants as any;
 ghost use Rattle.selectors.specs.declared.calls.CallRefusal.TheVariants as call;
 ghost use Rattle.std.specs.Prelude.{◌≡◌};
 
 use crate::faults::LoadFault;
 use calls::refusals::Refusal;
+use pgm::faults::FileFault;
 use recipes::refusals::{DraftRefusal, ElementRefusal};
 use selectors::calls::CallRefusal;
-use selectors::{PutRefusal, SelectRefusal};
+use selectors::{MedianRefusal, PutRefusal, SelectRefusal};
 use std::error::Error;
 use std::fmt;
 use tones::ToneRefusal;
@@ -21,13 +23,15 @@ pub enum AnyRefusal {
     Tone(ToneRefusal),
     /// A call on a selector.
     Selector(CallRefusal),
+    /// A weighted median.
+    Median(MedianRefusal),
     /// A call on an element.
     Element(ElementRefusal),
     /// A call on a draft.
     Draft(DraftRefusal),
     /// A call on a card.
     Card(Refusal),
-    /// A load.
+    /// A file, or the load of one.
     Load(LoadFault),
 }
 
@@ -39,6 +43,7 @@ impl AnyRefusal {
         match self {
             AnyRefusal::Tone(refusal) => refusal.number(),
             AnyRefusal::Selector(refusal) => refusal.number(),
+            AnyRefusal::Median(refusal) => refusal.number(),
             AnyRefusal::Element(refusal) => refusal.number(),
             AnyRefusal::Draft(refusal) => refusal.number(),
             AnyRefusal::Card(refusal) => refusal.number(),
@@ -58,6 +63,7 @@ impl fmt::Display for AnyRefusal {
         match self {
             AnyRefusal::Tone(refusal) => write!(f, "{refusal}"),
             AnyRefusal::Selector(refusal) => write!(f, "{refusal}"),
+            AnyRefusal::Median(refusal) => write!(f, "{refusal}"),
             AnyRefusal::Element(refusal) => write!(f, "{refusal}"),
             AnyRefusal::Draft(refusal) => write!(f, "{refusal}"),
             AnyRefusal::Card(refusal) => write!(f, "{refusal}"),
@@ -129,5 +135,21 @@ impl From<SelectRefusal> for AnyRefusal {
 
     fn from(refusal: SelectRefusal) -> AnyRefusal {
         AnyRefusal::Selector(CallRefusal::Select(refusal))
+    }
+}
+
+impl From<MedianRefusal> for AnyRefusal {
+    ghost from_gives = { λ r e. e ≡ any.Median r };
+
+    fn from(refusal: MedianRefusal) -> AnyRefusal {
+        AnyRefusal::Median(refusal)
+    }
+}
+
+impl From<FileFault> for AnyRefusal {
+    ghost from_gives = { λ f e. e ≡ any.Load (load.File f) };
+
+    fn from(fault: FileFault) -> AnyRefusal {
+        AnyRefusal::Load(LoadFault::File(fault))
     }
 }

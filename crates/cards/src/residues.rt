@@ -11,9 +11,11 @@ use selectors::Selector;
 use tones::Grey;
 
 impl<S: Selector> Card<Grey, S> {
-    /// Writes raw minus finished into a relief for each pixel. Refused without a size (16), with memory of another length (14), into a wrong count of reliefs (18), and with column 0 while any stage is stale (22).
+    /// Writes raw minus finished into a relief for each pixel. Refused without a size (16), with memory of
+    /// another length (14), into a wrong count of reliefs (18), and with column 0 while any stage is stale (22).
     pub fn residue(&self, memory: &[u8], reliefs: &mut [i16]) -> Result<(), Refusal>
-        ensures answer { done result ≡ residue_answer (notes self.now) memory.now (length reliefs.old) }
+        ensures answer { done result
+            ≡ residue_answer (notes self.now) memory.now (length reliefs.old) }
         ensures reliefs { reliefs.new ≡ residue_after (notes self.now) memory.now reliefs.old }
     {
         let opened = self.opened.as_ref().ok_or(Refusal::Unopened)?;

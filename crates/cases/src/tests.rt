@@ -1,13 +1,11 @@
 //! Examples.
 
-use calls::refusals::Refusal;
-use cards::card::Card;
-use recipes::draft::Draft;
-use recipes::element::Element;
-use recipes::places::Part;
-use selectors::{Gate, Histogram};
+use calls::Refusal;
+use cards::{AnyRefusal, Card};
+use recipes::{Draft, Element, Part};
+use selectors::{Gate, Histogram, Selector};
 use std::test::Fail;
-use tones::{Colour, ColourRow, Grey};
+use tones::{Colour, ColourRow, Grey, Tone};
 
 #[test]
 fn the_widest_card(rt: HostRuntime) {
@@ -70,4 +68,22 @@ fn figures_of_the_literature(rt: HostRuntime) -> Result<(), Fail> {
         assert_eq!(rt; card.row(&memory, 2, 1, 1), Ok(&[tone][..]));
     }
     Ok(())
+}
+
+/// The code that a gate ranks first, with calls of four crates and one type of refusal.
+fn ranked(hue: u16, order: u32) -> Result<u32, AnyRefusal> {
+    let colour = Colour::new(hue, 255, 0)?;
+    let mut cross = Element::new();
+    cross.standard(0)?;
+    cross.order(order)?;
+    let mut gate = Gate::new();
+    gate.put(colour.code(), 1)?;
+    Ok(gate.select(1)?)
+}
+
+#[test]
+fn any_refusal_by_its_number(rt: HostRuntime) {
+    assert_eq!(rt; ranked(120, 2), Ok(120));
+    assert_eq!(rt; ranked(360, 2).map_err(|refusal| refusal.number()), Err(1));
+    assert_eq!(rt; ranked(120, 3).map_err(|refusal| refusal.number()), Err(10));
 }

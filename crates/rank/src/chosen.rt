@@ -1,5 +1,5 @@
 //! The selector that a script has chosen.
-ghost use Rattle.std.specs.Prelude.{◌≡◌, ℕ};
+ghost use Rattle.std.specs.Prelude.{◌≡◌, ℕ, OnErr};
 ghost use Rattle.rank.specs.Choice.{chosen_range, chosen_weight, kind_range};
 ghost use Rattle.selectors.specs.Played.{Answered, after};
 
@@ -31,6 +31,7 @@ impl Chosen {
         ensures answer { Answered (chosen_weight self.old) (chosen_range self.old) call result }
         ensures weights { (c : ℕ) → chosen_weight self.new c
             ≡ after (chosen_weight self.old) (chosen_range self.old) call c }
+        ensures kept { OnErr result (self.new ≡ self.old) }
         ensures range_kept { chosen_range self.new ≡ chosen_range self.old }
     {
         match self {

@@ -1,5 +1,5 @@
 //! Calls of a selector as values: the names of the kinds, the calls, and what they answer.
-ghost use Rattle.std.specs.Prelude.{◌≡◌, ℕ, MatchResult, Some, codes, ◌≢◌};
+ghost use Rattle.std.specs.Prelude.{◌≡◌, ℕ, MatchResult, Some, codes, ◌≢◌, OnErr};
 ghost use Rattle.selectors.specs.Played.{Answered, after, call_number, call_text, name_of};
 ghost use Rattle.selectors.specs.declared.calls.CallRefusal.TheVariants as refused;
 ghost use Rattle.selectors.specs.declared.calls.Kind.{Kind as Named};
@@ -117,12 +117,13 @@ impl From<SelectRefusal> for CallRefusal {
     }
 }
 
-/// Makes the call.
+/// Makes the call; a refused one leaves the selector as it was.
 pub fn play<S: Selector>(selector: &mut S, call: Call) -> Result<Reply, CallRefusal>
     requires { S.ordered selector.old }
     ensures answer { Answered (S.weight selector.old) (S.range selector.old) call result }
     ensures weights { (c : ℕ) → S.weight selector.new c
         ≡ after (S.weight selector.old) (S.range selector.old) call c }
+    ensures kept { OnErr result (selector.new ≡ selector.old) }
     ensures range_kept { S.range selector.new ≡ S.range selector.old }
     ensures in_order { S.ordered selector.new }
 {

@@ -1,5 +1,5 @@
 //! Codes with their weights, as the gate and the ladder keep them.
-ghost use Rattle.std.specs.Prelude.{◌≡◌, ℕ, ◌≤◌, ◌⊎◌, Err, MatchResult, Ok, length, take};
+ghost use Rattle.std.specs.Prelude.{◌≡◌, ℕ, ◌≤◌, ◌⊎◌, Err, MatchResult, Ok, length, take, OnErr};
 ghost use Rattle.selectors.specs.Bag.{below};
 ghost use Rattle.selectors.specs.declared.limits.TheConstants.{MOST_CODES, MOST_WEIGHT, WIDE_RANGE};
 ghost use Rattle.selectors.specs.Calls.{put_bag, put_number, put_refusal, put_refused};
@@ -100,6 +100,7 @@ impl Entries {
             ≡ put_refusal (entries_weight self.old) WIDE_RANGE entry.code entry.weight }
         ensures weights { (c : ℕ) → entries_weight self.new c
             ≡ put_bag (put_refused result) (entries_weight self.old) entry.code entry.weight c }
+        ensures kept { OnErr result (self.new ≡ self.old) }
         ensures rising { Rising self.old.places self.old.count
             → Rising self.new.places self.new.count }
     {
@@ -115,6 +116,7 @@ impl Entries {
             ≡ put_refusal (entries_weight self.old) WIDE_RANGE entry.code entry.weight }
         ensures weights { (c : ℕ) → entries_weight self.new c
             ≡ put_bag (put_refused result) (entries_weight self.old) entry.code entry.weight c }
+        ensures kept { OnErr result (self.new ≡ self.old) }
         ensures rising { Seat (take self.old.count self.old.places) entry.code (Err at)
             → Rising self.old.places self.old.count
             → Rising self.new.places self.new.count }

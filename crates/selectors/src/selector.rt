@@ -1,5 +1,5 @@
 //! The interface of every selector: what it means, and what each call does to that meaning.
-ghost use Rattle.std.specs.Prelude.{◌≡◌, ℕ, ◌≤◌};
+ghost use Rattle.std.specs.Prelude.{◌≡◌, ℕ, ◌≤◌, OnErr};
 ghost use Rattle.selectors.specs.Bag.{below, held};
 ghost use Rattle.selectors.specs.declared.limits.TheConstants.{MOST_CODES, MOST_WEIGHT};
 ghost use Rattle.selectors.specs.Calls.{put_bag, put_refusal, put_refused, Selected};
@@ -28,13 +28,14 @@ pub trait Selector {
         ensures range_kept { range self.new ≡ range self.old }
         ensures in_order { ordered self.new };
 
-    /// Adds `amount` to the weight of `code`.
+    /// Adds `amount` to the weight of `code`; a refused one leaves the selector as it was.
     fn put(&mut self, code: u32, amount: u32) -> Result<(), PutRefusal>
         requires { ordered self.old }
         ensures answer { put_refused result
             ≡ put_refusal (weight self.old) (range self.old) code amount }
         ensures weights { (c : ℕ) → weight self.new c
             ≡ put_bag (put_refused result) (weight self.old) code amount c }
+        ensures kept { OnErr result (self.new ≡ self.old) }
         ensures range_kept { range self.new ≡ range self.old }
         ensures in_order { ordered self.new };
 
