@@ -3,7 +3,7 @@ use Rattle.std.specs.Prelude.{◌≡◌, ℕ, ◌<◌, Bool, List, [], ◌∷◌
 use Rattle.std.specs.Char.{is_ascii_whitespace, is_not_whitespace, is_whitespace}
 use Rattle.std.specs.List.{prefix_len, starts_with}
 use Rattle.std.specs.Str.{EmptyOrStartsWithPassing, NoCharPasses}
-use Rattle.lines.specs.Words.{Rest}
+use Rattle.scripts.specs.Words.{Rest}
 
 -- a line without the blanks at its start
 abbrev pub after_blanks : List ℕ → List ℕ

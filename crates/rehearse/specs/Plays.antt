@@ -16,19 +16,19 @@ use Rattle.selectors.specs.Played.{Answered}
 use Rattle.selectors.specs.declared.calls.Call.{Call as SelectorCall}
 use Rattle.selectors.specs.declared.calls.CallRefusal.{CallRefusal}
 use Rattle.selectors.specs.declared.calls.Reply.{Reply}
-use Rattle.lines.specs.Told.{call_told, selector_told, work_told}
-use Rattle.lines.specs.Words.{Rest}
-use Rattle.lines.specs.declared.answers.Answer.{Answer}
-use Rattle.lines.specs.declared.answers.Answer.TheVariants as told
-use Rattle.lines.specs.declared.answers.Fault.{Fault}
-use Rattle.lines.specs.declared.answers.Fault.TheVariants.{Unknown, Card, Tone, Memory}
-use Rattle.lines.specs.declared.commands.Call.{Call as Asked}
-use Rattle.lines.specs.declared.commands.Call.TheVariants as asked
-use Rattle.lines.specs.declared.commands.Opening.{Opening}
-use Rattle.lines.specs.declared.commands.Patch.{Patch as Rectangle}
+use Rattle.scripts.specs.Told.{call_told, selector_told, work_told}
+use Rattle.scripts.specs.Words.{Rest}
+use Rattle.scripts.specs.declared.answers.Answer.{Answer}
+use Rattle.scripts.specs.declared.answers.Answer.TheVariants as told
+use Rattle.scripts.specs.declared.answers.Fault.{Fault}
+use Rattle.scripts.specs.declared.answers.Fault.TheVariants.{Unknown, Card, Tone, Memory}
+use Rattle.scripts.specs.declared.commands.Call.{Call as Asked}
+use Rattle.scripts.specs.declared.commands.Call.TheVariants as asked
+use Rattle.scripts.specs.declared.commands.Opening.{Opening}
+use Rattle.scripts.specs.declared.commands.Patch.{Patch as Rectangle}
 use Rattle.rehearse.specs.Rooms.{room_of}
-use Rattle.texts.specs.Rows.{NotRead, RowsWritten, relief_shown, rows_text}
-use Rattle.texts.specs.Scripted.{Scripted}
+use Rattle.scripts.specs.Rows.{NotRead, RowsWritten, relief_shown, rows_text}
+use Rattle.scripts.specs.Scripted.{Scripted}
 use Rattle.tones.specs.declared.refusals.ToneRefusal.{ToneRefusal}
 
 -- a call that is accepted or refused

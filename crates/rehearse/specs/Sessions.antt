@@ -4,20 +4,20 @@ use Rattle.std.specs.Borrow.{Bor}
 use Rattle.tones.specs.Kind.{Kind}
 use Rattle.recipes.specs.Placed.{placed}
 use Rattle.selectors.specs.Played.{after}
-use Rattle.lines.specs.Desks.{Drafted, Edited, edit_order, edit_places}
-use Rattle.lines.specs.Lines.{Says}
-use Rattle.lines.specs.Words.{Rest}
-use Rattle.lines.specs.declared.answers.Answer.{Answer}
-use Rattle.lines.specs.declared.answers.Fault.{Fault}
-use Rattle.lines.specs.declared.answers.Fault.TheVariants.{Unknown}
-use Rattle.lines.specs.declared.commands.Command.{Command}
-use Rattle.lines.specs.declared.commands.Command.TheVariants.{Choose, OnElement, OnDraft, OnCard, OnSelector}
-use Rattle.lines.specs.declared.desk.Desk.{Desk}
+use Rattle.scripts.specs.Desks.{Drafted, Edited, edit_order, edit_places}
+use Rattle.scripts.specs.Lines.{Says}
+use Rattle.scripts.specs.Words.{Rest}
+use Rattle.scripts.specs.declared.answers.Answer.{Answer}
+use Rattle.scripts.specs.declared.answers.Fault.{Fault}
+use Rattle.scripts.specs.declared.answers.Fault.TheVariants.{Unknown}
+use Rattle.scripts.specs.declared.commands.Command.{Command}
+use Rattle.scripts.specs.declared.commands.Command.TheVariants.{Choose, OnElement, OnDraft, OnCard, OnSelector}
+use Rattle.scripts.specs.declared.desk.Desk.{Desk}
 use Rattle.std.specs.Str.{IsUtf8}
 use Rattle.rehearse.specs.Cuts.{CutInto, is_comment}
 use Rattle.rehearse.specs.Plays.{Made, Ranks, draft_after}
 use Rattle.rehearse.specs.Seen.{Seen, stands}
-use Rattle.texts.specs.Scripted.{Scripted}
+use Rattle.scripts.specs.Scripted.{Scripted}
 use Rattle.rehearse.specs.declared.session.Line.{Line}
 use Rattle.rehearse.specs.declared.session.Line.TheVariants as line
 

@@ -6,18 +6,18 @@ mod player;
 mod script;
 mod session;
 
-use lines::answers::Answer;
-use lines::commands::{Choice, Tones};
-use lines::desk::Desk;
-use lines::tally::{Summary, Tally};
 use script::Script;
+use scripts::answers::Answer;
+use scripts::commands::{Choice, Tones};
+use scripts::desk::Desk;
+use scripts::rows::Rows;
+use scripts::tally::{Summary, Tally};
 use selectors::calls::Kind;
 use selectors::{Gate, Histogram, Ladder};
 use session::{Evening, session};
 use std::ops::ControlFlow;
 use std::process::ExitCode;
 use std::{env, io};
-use texts::rows::Rows;
 use tones::{Colour, Grey, Mark, Relief, Tone};
 
 /// What `--help` prints.

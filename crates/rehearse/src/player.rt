@@ -12,17 +12,17 @@ ghost use Rattle.rehearse.specs.Rooms.{room_of};
 ghost use Rattle.selectors.specs.Played.{after};
 
 use cards::card::Card;
-use lines::answers::{Answer, Fault};
-use lines::commands::{Opening, Patch};
 use planes::frame::Frame;
 use planes::size::Size;
 use recipes::draft::Draft;
+use scripts::answers::{Answer, Fault};
+use scripts::commands::{Opening, Patch};
+use scripts::lists::{rows_read, rows_shown};
+use scripts::rows::Rows;
 use selectors::Selector;
 use selectors::calls::{Call, play};
 use std::alloc::{AllocError, Global};
 use std::marker::Model;
-use texts::lists::{rows_read, rows_shown};
-use texts::rows::Rows;
 use tones::{Relief, Tone};
 
 /// The card, its memory, the number of pixels of the card, and the selector.

@@ -2,22 +2,22 @@
 
 ghost use Rattle.std.specs.Prelude.{◌≡◌, IfErr, IfOk};
 ghost use Rattle.rehearse.specs.Seen.{stands};
-ghost use Rattle.lines.specs.Told.{first_after, played_after, refused_after, unknown_after};
+ghost use Rattle.scripts.specs.Told.{first_after, played_after, refused_after, unknown_after};
 ghost use Rattle.rehearse.specs.Plays.{Made, draft_after};
 ghost use Rattle.rehearse.specs.Sessions.{LinePlayed, Played};
 
 use crate::player::Player;
 use crate::script::{Script, bytes_of, words_of};
-use lines::answers::{Answer, Fault};
-use lines::commands::{Call, Choice, Command};
-use lines::desk::Desk;
-use lines::reading::read_command;
-use lines::tally::Tally;
+use scripts::answers::{Answer, Fault};
+use scripts::commands::{Call, Choice, Command};
+use scripts::desk::Desk;
+use scripts::reading::read_command;
+use scripts::rows::Rows;
+use scripts::tally::Tally;
 use selectors::Selector;
 use std::alloc::AllocError;
 use std::io;
 use std::ops::ControlFlow;
-use texts::rows::Rows;
 
 /// What stays from card to card.
 #[derive(Drop)]
