@@ -16,7 +16,8 @@ is_comment line = starts_with nat_eq (after_blanks line) (codes "#")
 -- a word without white space, with white space alone before it, and after it the end or white space
 abbrev pub IsWord : List ℕ → List ℕ → List ℕ → Type 0
 IsWord gap word rest = (0 < length word) × NoCharPasses is_not_whitespace gap
-    × NoCharPasses is_whitespace word × ((more : List ℕ) × EmptyOrStartsWithPassing is_whitespace rest more)
+    × NoCharPasses is_whitespace word
+    × ((more : List ℕ) × EmptyOrStartsWithPassing is_whitespace rest more)
 
 -- the words of a text, one after another; after the last there is white space alone
 abbrev pub CutInto : List ℕ → Rest → Type 0

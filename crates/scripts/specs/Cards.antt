@@ -14,12 +14,14 @@ faulted kind (Ok a) = Ok a
 faulted kind (Err e) = Err (kind e)
 
 -- no kind but greys has residues: the line is not read
-abbrev pub NoResidue : {R : Type 0} → Option Notes → List R → List ℤ → Result (Unit {0}) Fault → List ℤ → Type 0
+abbrev pub NoResidue : {R : Type 0} → Option Notes → List R → List ℤ
+    → Result (Unit {0}) Fault → List ℤ → Type 0
 NoResidue n m before r after = (r ≡ Err fault.Unknown) × (after ≡ before)
 
 -- the residue of a grey card
 abbrev pub GreyResidue : Option Notes → List ℕ → List ℤ → Result (Unit {0}) Fault → List ℤ → Type 0
-GreyResidue n m before r after = (x : Result (Unit {0}) Refusal) × (r ≡ faulted fault.Card x) × (done {R = ℕ} x ≡ residue_answer n m (length before)) × (after ≡ residue_after n m before)
+GreyResidue n m before r after = (x : Result (Unit {0}) Refusal) × (r ≡ faulted fault.Card x)
+    × (done {R = ℕ} x ≡ residue_answer n m (length before)) × (after ≡ residue_after n m before)
 
 -- no kind but greys has files: the line is not read, whether the file was or not
 abbrev pub NoLoad : {R : Type 0} → State R

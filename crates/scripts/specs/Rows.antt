@@ -23,7 +23,8 @@ ReliefWritten ws z = (length ws ≡ 1) × Integer w16 (word ws 0) z
 
 -- a colour: its hue, its saturation and its brightness
 abbrev pub ColourWritten : Rest → ColourRow → Type 0
-ColourWritten ws r = (length ws ≡ 3) × Natural 16 (word ws 0) r.hue × Natural 8 (word ws 1) r.saturation × Natural 8 (word ws 2) r.brightness
+ColourWritten ws r = (length ws ≡ 3) × Natural 16 (word ws 0) r.hue
+    × Natural 8 (word ws 1) r.saturation × Natural 8 (word ws 2) r.brightness
 
 -- what a type reads in the only word
 abbrev pub ReadsOnly : {N E : Type 0} → (List ℕ → Result N E → Type 0) → Rest → Option N → Type 0
@@ -50,7 +51,8 @@ colour_shown r = spaced r.hue ++ spaced r.saturation ++ spaced r.brightness
 -- words write rows: first those of the first row, then those of the others
 abbrev pub RowsWritten : {R : Type 0} → (Rest → R → Type 0) → Rest → List R → Type 0
 RowsWritten Written ws [] = ws ≡ []
-RowsWritten Written ws (row ∷ rows) = (first others : Rest) × (ws ≡ first ++ others) × Written first row × RowsWritten Written others rows
+RowsWritten Written ws (row ∷ rows) = (first others : Rest) × (ws ≡ first ++ others)
+    × Written first row × RowsWritten Written others rows
 
 -- rows are shown one after another
 abbrev pub rows_text : {R : Type 0} → (R → List ℕ) → List R → List ℕ
@@ -58,4 +60,5 @@ rows_text shown rows = flat_map shown rows
 
 -- the words write nothing so, or there was no memory to read it
 abbrev pub NotRead : {A : Type 0} → (A → Type 0) → Fault → Type 0
-NotRead {A} written f = ((f ≡ Unknown) × ((a : A) → written a → ⊥)) ⊎ ((m : AllocError) × (f ≡ Memory m))
+NotRead {A} written f =
+    ((f ≡ Unknown) × ((a : A) → written a → ⊥)) ⊎ ((m : AllocError) × (f ≡ Memory m))

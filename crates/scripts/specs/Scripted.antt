@@ -13,5 +13,5 @@ pub record Scripted (R : Type 0) : Type 1 where
   pub shown : R → List ℕ
   -- what a residue of a card answers, and what it leaves in the reliefs
   pub residues : Option Notes → List R → List ℤ → Result (Unit {0}) Fault → List ℤ → Type 0
-  -- what a load answers, of a file or where none was read, and the card with its memory that it leaves
+  -- what a load answers, of a file or where none was read, and the card with its memory after it
   pub loads : State R → ℕ → ℕ → Option (List ℕ) → Result (Unit {0}) Fault → State R → Type 0

@@ -9,7 +9,7 @@ use Rattle.recipes.specs.Refusals.{element_number, draft_number}
 use Rattle.selectors.specs.Played.{call_number}
 use Rattle.tones.specs.Refusals.{refusal_number as tone_number}
 use Rattle.scripts.specs.declared.answers.Answer.{Answer}
-use Rattle.scripts.specs.declared.answers.Answer.TheVariants as told
+use Rattle.scripts.specs.declared.answers.Answer.TheVariants as answer
 use Rattle.scripts.specs.declared.answers.Fault.{Fault}
 use Rattle.scripts.specs.declared.answers.Fault.TheVariants as fault
 use Rattle.scripts.specs.declared.tally.Summary.{Summary}
@@ -21,11 +21,11 @@ due_line None = codes "nothing"
 
 -- an answer
 abbrev pub answer_line : Answer → List ℕ
-answer_line told.Done = codes "ok"
-answer_line (told.Counted n) = codes "ok " ++ decimal n
-answer_line (told.Rows t) = codes "ok" ++ string_bytes t
-answer_line (told.Number n) = decimal n
-answer_line (told.Due d) = due_line d
+answer_line answer.Done = codes "ok"
+answer_line (answer.Counted n) = codes "ok " ++ decimal n
+answer_line (answer.Rows t) = codes "ok" ++ string_bytes t
+answer_line (answer.Number n) = decimal n
+answer_line (answer.Due d) = due_line d
 
 -- a refusal by its number
 abbrev pub refused_line : ℕ → List ℕ
@@ -38,7 +38,8 @@ card_line e = refused_line (refusal_number e)
 
 -- a load's: with the letter and the byte of a file's fault, and 0 for the card
 abbrev pub load_line : Option ℕ → ℕ → ℕ → List ℕ
-load_line (Some letter) n spot = codes "refused load file " ++ decimal n ++ codes " " ++ encode_utf8 letter ++ codes " " ++ decimal spot
+load_line (Some letter) n spot = codes "refused load file " ++ decimal n
+    ++ codes " " ++ encode_utf8 letter ++ codes " " ++ decimal spot
 load_line None n spot = codes "refused load card " ++ decimal n ++ codes " " ++ decimal spot
 
 -- a fault

@@ -6,7 +6,8 @@ use Rattle.std.specs.Str.Parse.{IsNumeral, digits_value, without_leading_plus, w
 use Rattle.scripts.specs.declared.commands.Tones.{Tones}
 use Rattle.scripts.specs.declared.commands.Tones.TheVariants.{Mark, Grey, Relief, Colour}
 
--- all that is written is read: what is read is written so, and nothing is read only where nothing is written so
+-- all that is written is read: what is read is written so, and nothing is read only where nothing
+-- is written so
 abbrev pub ReadsAll : {A : Type 0} → (A → Type 0) → Option A → Type 0
 ReadsAll written (Some a) = written a
 ReadsAll {A} written None = (a : A) → written a → ⊥
@@ -18,11 +19,14 @@ Read {E = E} reads w None = (e : E) × reads w (Err e)
 
 -- a word writes the number n, below 2 ^ bits, in digits, a plus before them or not
 abbrev pub Natural : ℕ → List ℕ → ℕ → Type 0
-Natural bits w n = IsNumeral 10 (without_leading_plus w) × (digits_value 10 (without_leading_plus w) < 2 ^ bits) × (n ≡ digits_value 10 (without_leading_plus w))
+Natural bits w n = IsNumeral 10 (without_leading_plus w)
+    × (digits_value 10 (without_leading_plus w) < 2 ^ bits)
+    × (n ≡ digits_value 10 (without_leading_plus w))
 
 -- a word writes the whole number z in digits, a sign before them or not
 abbrev pub Integer : Width → List ℕ → ℤ → Type 0
-Integer wide w z = IsNumeral 10 (without_leading_sign w) × FitsSigned wide (signed_digits_value 10 w) × (z ≡ signed_digits_value 10 w)
+Integer wide w z = IsNumeral 10 (without_leading_sign w)
+    × FitsSigned wide (signed_digits_value 10 w) × (z ≡ signed_digits_value 10 w)
 
 -- the words after the name of a line
 abbrev pub Rest : Type 0

@@ -2,7 +2,7 @@
 
 ghost use Rattle.std.specs.Prelude.{◌≡◌, Some};
 ghost use Rattle.scripts.specs.Shown.{answer_line, fault_line};
-ghost use Rattle.scripts.specs.Told.{reply_answer};
+ghost use Rattle.scripts.specs.Answers.{reply_answer};
 ghost use Rattle.scripts.specs.declared.answers.Fault.TheVariants as fault;
 
 use calls::refusals::Refusal;

@@ -24,7 +24,8 @@ impl FromStr for Tones {
 
     type Err = UnknownTones;
 
-    ghost from_str_gives = { λ w r. MatchResult r (λ k. w ≡ tones_name k) (λ _. (k : Named) → w ≢ tones_name k) };
+    ghost from_str_gives = { λ w r. MatchResult r
+        (λ k. w ≡ tones_name k) (λ _. (k : Named) → w ≢ tones_name k) };
 
     fn from_str(name: &str) -> Result<Tones, UnknownTones> {
         match name {

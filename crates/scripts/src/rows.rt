@@ -23,7 +23,7 @@ pub trait Rows: Tone<Row: Default> {
     /// What the kind is in scripts: how its rows are written and shown, and what only greys can do.
     ghost scripted: { Scripted Self.Row };
 
-    /// How many numbers a row has. No constant, since a law cannot say that a trait's constant is above 0.
+    /// How many numbers a row has. No constant: a law cannot say that a trait's constant is above 0.
     fn parts() -> usize
         ensures { result ≡ scripted.count };
 
@@ -33,7 +33,8 @@ pub trait Rows: Tone<Row: Default> {
 
     /// Adds the numbers of the row to a text, each after a space.
     fn show(row: Self::Row, text: &mut String) -> Result<(), AllocError>
-        ensures { IfOk result (λ _. string_bytes text.new ≡ string_bytes text.old ++ scripted.shown row) };
+        ensures { IfOk result
+            (λ _. string_bytes text.new ≡ string_bytes text.old ++ scripted.shown row) };
 
     /// The tone of these parts; refused outside the limits.
     fn make(row: Self::Row) -> Result<Self, ToneRefusal>
@@ -67,7 +68,13 @@ pub trait Rows: Tone<Row: Default> {
 }
 
 impl Rows for Mark {
-    ghost scripted = { record { written = MarkWritten; count = 1; shown = mark_shown; residues = NoResidue; loads = NoLoad } };
+    ghost scripted = { record {
+      written = MarkWritten;
+      count = 1;
+      shown = mark_shown;
+      residues = NoResidue;
+      loads = NoLoad;
+    } };
 
     ghost sized = { Prim.search rules };
 
@@ -123,7 +130,13 @@ where
 }
 
 impl Rows for Grey {
-    ghost scripted = { record { written = GreyWritten; count = 1; shown = spaced; residues = GreyResidue; loads = GreyLoad } };
+    ghost scripted = { record {
+      written = GreyWritten;
+      count = 1;
+      shown = spaced;
+      residues = GreyResidue;
+      loads = GreyLoad;
+    } };
 
     ghost sized = { Prim.search rules };
 
@@ -164,7 +177,13 @@ impl Rows for Grey {
 }
 
 impl Rows for Relief {
-    ghost scripted = { record { written = ReliefWritten; count = 1; shown = relief_shown; residues = NoResidue; loads = NoLoad } };
+    ghost scripted = { record {
+      written = ReliefWritten;
+      count = 1;
+      shown = relief_shown;
+      residues = NoResidue;
+      loads = NoLoad;
+    } };
 
     ghost sized = { Prim.search rules };
 
@@ -204,7 +223,13 @@ impl Rows for Relief {
 }
 
 impl Rows for Colour {
-    ghost scripted = { record { written = ColourWritten; count = 3; shown = colour_shown; residues = NoResidue; loads = NoLoad } };
+    ghost scripted = { record {
+      written = ColourWritten;
+      count = 3;
+      shown = colour_shown;
+      residues = NoResidue;
+      loads = NoLoad;
+    } };
 
     ghost sized = { Prim.search rules };
 

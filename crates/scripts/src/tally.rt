@@ -2,12 +2,13 @@
 
 ghost use Rattle.std.specs.Prelude.{◌≡◌, None, Some};
 ghost use Rattle.scripts.specs.Shown.{last_line};
-ghost use Rattle.scripts.specs.Told.{first_after, played_after, refused_after, unknown_after};
+ghost use Rattle.scripts.specs.Answers.{first_after, played_after, refused_after, unknown_after};
 
 use crate::answers::{Answer, Fault};
 use std::fmt;
 
-/// The calls, those of them that were refused, and the lines that were not read. The counts go round at 2^64.
+/// The calls, those of them that were refused, and the lines that were not read. The counts go
+/// round at 2^64.
 #[derive(Clone, Copy, Default)]
 pub struct Tally {
     pub played: u64,
@@ -27,14 +28,14 @@ impl Tally {
         Tally::default()
     }
 
-    /// Counts the line of this number by what is told of it.
-    pub fn count(&mut self, told: &Result<Answer, Fault>, line: u64)
-        ensures played { self.new.played ≡ played_after told.now self.old.played }
-        ensures refused { self.new.refused ≡ refused_after told.now self.old.refused }
-        ensures unknown { self.new.unknown ≡ unknown_after told.now self.old.unknown }
-        ensures first { self.new.first ≡ first_after told.now line self.old.first }
+    /// Counts the line of this number by its answer.
+    pub fn count(&mut self, answered: &Result<Answer, Fault>, line: u64)
+        ensures played { self.new.played ≡ played_after answered.now self.old.played }
+        ensures refused { self.new.refused ≡ refused_after answered.now self.old.refused }
+        ensures unknown { self.new.unknown ≡ unknown_after answered.now self.old.unknown }
+        ensures first { self.new.first ≡ first_after answered.now line self.old.first }
     {
-        match told {
+        match answered {
             Ok(_) => self.played = self.played.wrapping_add(1),
             Err(Fault::Memory(_)) => {}
             Err(Fault::Unknown | Fault::Unreadable) => {

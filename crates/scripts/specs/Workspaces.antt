@@ -10,7 +10,7 @@ use Rattle.recipes.specs.declared.draft.Draft.{Draft}
 use Rattle.recipes.specs.declared.draft.Step.{Step as Move}
 use Rattle.recipes.specs.declared.element.Element.{Element as Shape}
 use Rattle.recipes.specs.declared.places.Place.{Place as Spot}
-use Rattle.scripts.specs.Told.{DoneUnless}
+use Rattle.scripts.specs.Answers.{DoneUnless}
 use Rattle.scripts.specs.declared.answers.Answer.{Answer}
 use Rattle.scripts.specs.declared.answers.Answer.TheVariants.{Done}
 use Rattle.scripts.specs.declared.answers.Fault.{Fault}
@@ -28,7 +28,7 @@ edit_refusal ps (Amount dx dy a) = amount_refusal ps dx dy a
 edit_refusal ps (Order k) = order_refusal ps k
 edit_refusal ps (Standard i) = standard_refusal (shape_of i)
 
--- what is told of it: done, or the element's refusal of that number
+-- its answer: done, or the element's refusal of that number
 abbrev pub Edited : List Spot → Edit → Result Answer Fault → Type 0
 Edited ps edit r = DoneUnless fault.Element element_number (edit_refusal ps edit) r
 
@@ -55,16 +55,17 @@ abbrev pub IsDraft : Option Draft → List Move → ℕ → Type 0
 IsDraft (Some d) ss n = (steps_of d ≡ ss) × (d.declared ≡ n)
 IsDraft None ss n = ⊥
 
--- what is told of a step of a letter on a draft: done, or the draft's refusal by its number
-abbrev pub StepTold : Draft → ℕ → Result Answer Fault → Type 0
-StepTold d l r =
+-- the answer of a step of a letter on a draft: done, or the draft's refusal by its number
+abbrev pub StepAnswered : Draft → ℕ → Result Answer Fault → Type 0
+StepAnswered d l r =
     DoneUnless fault.Draft draft_number (step_refusal (letter_of l) (steps_of d) d.declared) r
 
 -- a step on the present draft with an element
 abbrev pub Stepped : Option Draft → Shape → ℕ → Option Draft → Result Answer Fault → Type 0
 Stepped None e l after r = (after ≡ None) × (r ≡ Err fault.Unknown)
 Stepped (Some d) e l after r =
-    IsDraft after (step_after (letter_of l) e (steps_of d) d.declared) d.declared × StepTold d l r
+    IsDraft after (step_after (letter_of l) e (steps_of d) d.declared) d.declared
+    × StepAnswered d l r
 
 -- each call on the present draft
 abbrev pub Drafted : Option Draft → Shape → Drafting → Option Draft → Result Answer Fault → Type 0

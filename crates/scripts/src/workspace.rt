@@ -3,7 +3,7 @@
 ghost use Rattle.std.specs.Prelude.{◌≡◌, [], ◌∷◌, None};
 ghost use Rattle.recipes.specs.Placed.{placed};
 ghost use Rattle.recipes.specs.Places.{origin};
-ghost use Rattle.scripts.specs.Desks.{Drafted, Edited, Stepped, edit_order, edit_places};
+ghost use Rattle.scripts.specs.Workspaces.{Drafted, Edited, Stepped, edit_order, edit_places};
 
 use crate::answers::{Answer, Fault};
 use crate::commands::{Drafting, Edit};
@@ -12,19 +12,19 @@ use recipes::element::Element;
 
 /// The present element, and the present draft until it is handed over.
 #[derive(Drop)]
-pub struct Desk {
+pub struct Workspace {
     element: Element,
     draft: Option<Draft>,
 }
 
-impl Desk {
+impl Workspace {
     /// A new element, and no draft.
-    pub fn new() -> Desk
+    pub fn new() -> Workspace
         ensures places { placed result.element ≡ origin ∷ [] }
         ensures order { result.element.order ≡ 1 }
         ensures draft { result.draft ≡ None }
     {
-        Desk {
+        Workspace {
             element: Element::new(),
             draft: None,
         }
@@ -34,7 +34,8 @@ impl Desk {
     pub fn edit(&mut self, edit: Edit) -> Result<Answer, Fault>
         ensures answer { Edited (placed self.old.element) edit result }
         ensures places { placed self.new.element ≡ edit_places (placed self.old.element) edit }
-        ensures order { self.new.element.order ≡ edit_order (placed self.old.element) self.old.element.order edit }
+        ensures order { self.new.element.order
+            ≡ edit_order (placed self.old.element) self.old.element.order edit }
         ensures draft { self.new.draft ≡ self.old.draft }
     {
         match edit {

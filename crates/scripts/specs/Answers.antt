@@ -1,4 +1,4 @@
--- What is told of the result of each call, and how the calls and the unknown lines are counted.
+-- What the result of each call is answered, and how the calls and the unknown lines are counted.
 -- Assumes nothing.
 use Rattle.std.specs.Prelude.{◌≡◌, ℕ, ◌+◌, ◌%◌, ◌^◌, Ok, Err, Some, None, Option, Result}
 use Rattle.calls.specs.declared.refusals.Refusal.{Refusal}
@@ -6,43 +6,45 @@ use Rattle.selectors.specs.declared.calls.CallRefusal.{CallRefusal}
 use Rattle.selectors.specs.declared.calls.Reply.{Reply}
 use Rattle.selectors.specs.declared.calls.Reply.TheVariants as reply
 use Rattle.scripts.specs.declared.answers.Answer.{Answer}
-use Rattle.scripts.specs.declared.answers.Answer.TheVariants as told
+use Rattle.scripts.specs.declared.answers.Answer.TheVariants as answer
 use Rattle.scripts.specs.declared.answers.Fault.{Fault}
 use Rattle.scripts.specs.declared.answers.Fault.TheVariants as fault
 
--- what is told of any call: of its value as said, of its refusal with its kind
-abbrev pub told_of : {A E : Type 0} → (A → Answer) → (E → Fault) → Result A E → Result Answer Fault
-told_of answer kind (Ok a) = Ok (answer a)
-told_of answer kind (Err e) = Err (kind e)
+-- the answer of any call: its value as said, or its refusal with its kind
+abbrev pub answer_of : {A E : Type 0} → (A → Answer) → (E → Fault) → Result A E
+    → Result Answer Fault
+answer_of said kind (Ok a) = Ok (said a)
+answer_of said kind (Err e) = Err (kind e)
 
 -- a call that answers nothing is done
 abbrev pub done : Unit {0} → Answer
-done _ = told.Done
+done _ = answer.Done
 
 -- a call on a card
-abbrev pub call_told : Result (Unit {0}) Refusal → Result Answer Fault
-call_told = told_of done fault.Card
+abbrev pub answer_of_call : Result (Unit {0}) Refusal → Result Answer Fault
+answer_of_call = answer_of done fault.Card
 
 -- work: the rows redone
-abbrev pub work_told : Result ℕ Refusal → Result Answer Fault
-work_told = told_of told.Counted fault.Card
+abbrev pub answer_of_work : Result ℕ Refusal → Result Answer Fault
+answer_of_work = answer_of answer.Counted fault.Card
 
--- a call that is refused with this number, if with any: done, or the refusal of its kind that has the number
+-- a call that is refused with this number, if with any: done, or the refusal of its kind that has
+-- the number
 abbrev pub DoneUnless :
     {E : Type 0} → (E → Fault) → (E → ℕ) → Option ℕ → Result Answer Fault → Type 0
-DoneUnless kind number refusal (Ok a) = (refusal ≡ None) × (a ≡ told.Done)
+DoneUnless kind number refusal (Ok a) = (refusal ≡ None) × (a ≡ answer.Done)
 DoneUnless {E} kind number refusal (Err f) =
     (e : E) × (refusal ≡ Some (number e)) × (f ≡ kind e)
 
 -- a selector's total stands alone, since it is never refused
 abbrev pub reply_answer : Reply → Answer
-reply_answer reply.Done = told.Done
-reply_answer (reply.Total n) = told.Number n
-reply_answer (reply.Code c) = told.Counted c
+reply_answer reply.Done = answer.Done
+reply_answer (reply.Total n) = answer.Number n
+reply_answer (reply.Code c) = answer.Counted c
 
 -- a call on a selector
-abbrev pub selector_told : Result Reply CallRefusal → Result Answer Fault
-selector_told = told_of reply_answer fault.Selector
+abbrev pub answer_of_selector : Result Reply CallRefusal → Result Answer Fault
+answer_of_selector = answer_of reply_answer fault.Selector
 
 -- one more, of 64 bits
 abbrev pub one_more : ℕ → ℕ
@@ -71,10 +73,10 @@ refused_after (Err f) n = played_after (Err f) n
 abbrev pub unknown_after : Result Answer Fault → ℕ → ℕ
 unknown_after (Err fault.Unknown) n = one_more n
 unknown_after (Err fault.Unreadable) n = one_more n
-unknown_after told n = n
+unknown_after answered n = n
 
 -- the number of the first of them, after a line of this number
 abbrev pub first_after : Result Answer Fault → ℕ → Option ℕ → Option ℕ
 first_after (Err fault.Unknown) line None = Some line
 first_after (Err fault.Unreadable) line None = Some line
-first_after told line first = first
+first_after answered line first = first
