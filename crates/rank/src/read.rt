@@ -36,7 +36,7 @@ pub fn said(name: &str, first: Option<&str>, second: Option<&str>) -> Option<Com
     }
 }
 
-/// The number that the word writes. `lines` reads any kind of number so; this program stands on `selectors` alone.
+/// The number that the word writes. `scripts` reads any kind of number so; this program stands on `selectors` alone.
 pub fn number(word: &str) -> Option<u32>
     ensures { MatchOption result ((n : ℕ) → Writes word.now n → ⊥) (λ n. Writes word.now n) }
 {

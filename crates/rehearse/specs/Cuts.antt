@@ -3,7 +3,7 @@ use Rattle.std.specs.Prelude.{◌≡◌, ℕ, ◌<◌, Bool, List, [], ◌∷◌
 use Rattle.std.specs.Char.{is_ascii_whitespace, is_not_whitespace, is_whitespace}
 use Rattle.std.specs.List.{prefix_len, starts_with}
 use Rattle.std.specs.Str.{EmptyOrStartsWithPassing, NoCharPasses}
-use Rattle.lines.specs.Words.{Rest}
+use Rattle.scripts.specs.Words.{Rest}
 
 -- a line without the blanks at its start
 abbrev pub after_blanks : List ℕ → List ℕ
@@ -16,7 +16,8 @@ is_comment line = starts_with nat_eq (after_blanks line) (codes "#")
 -- a word without white space, with white space alone before it, and after it the end or white space
 abbrev pub IsWord : List ℕ → List ℕ → List ℕ → Type 0
 IsWord gap word rest = (0 < length word) × NoCharPasses is_not_whitespace gap
-    × NoCharPasses is_whitespace word × ((more : List ℕ) × EmptyOrStartsWithPassing is_whitespace rest more)
+    × NoCharPasses is_whitespace word
+    × ((more : List ℕ) × EmptyOrStartsWithPassing is_whitespace rest more)
 
 -- the words of a text, one after another; after the last there is white space alone
 abbrev pub CutInto : List ℕ → Rest → Type 0

@@ -1,4 +1,4 @@
--- What is told of a call on a card: the answer that the rules of the call give, by the line that
+-- What a call on a card is answered: the answer that the rules of the call give, by the line that
 -- stands for it. Assumes nothing.
 use Rattle.std.specs.Prelude.{◌≡◌, ◌≢◌, ◌⊎◌, ℕ, ◌-◌, ◌*◌, if◌then◌else◌, ◌||◌, List, ◌++◌, length, take, replicate, ℤ, pos, Ok, Some, None, Err, MatchResult, Option, Result, String, ◌==◌, string_bytes}
 use Rattle.std.specs.Borrow.{Bor}
@@ -16,55 +16,59 @@ use Rattle.selectors.specs.Played.{Answered}
 use Rattle.selectors.specs.declared.calls.Call.{Call as SelectorCall}
 use Rattle.selectors.specs.declared.calls.CallRefusal.{CallRefusal}
 use Rattle.selectors.specs.declared.calls.Reply.{Reply}
-use Rattle.lines.specs.Told.{call_told, selector_told, work_told}
-use Rattle.lines.specs.Words.{Rest}
-use Rattle.lines.specs.declared.answers.Answer.{Answer}
-use Rattle.lines.specs.declared.answers.Answer.TheVariants as told
-use Rattle.lines.specs.declared.answers.Fault.{Fault}
-use Rattle.lines.specs.declared.answers.Fault.TheVariants.{Unknown, Card, Tone, Memory}
-use Rattle.lines.specs.declared.commands.Call.{Call as Asked}
-use Rattle.lines.specs.declared.commands.Call.TheVariants as asked
-use Rattle.lines.specs.declared.commands.Opening.{Opening}
-use Rattle.lines.specs.declared.commands.Patch.{Patch as Rectangle}
+use Rattle.scripts.specs.Answers.{answer_of_call, answer_of_selector, answer_of_work}
+use Rattle.scripts.specs.Words.{Rest}
+use Rattle.scripts.specs.declared.answers.Answer.{Answer}
+use Rattle.scripts.specs.declared.answers.Answer.TheVariants as answer
+use Rattle.scripts.specs.declared.answers.Fault.{Fault}
+use Rattle.scripts.specs.declared.answers.Fault.TheVariants.{Unknown, Card, Tone, Memory}
+use Rattle.scripts.specs.declared.commands.Call.{Call as Asked}
+use Rattle.scripts.specs.declared.commands.Call.TheVariants as asked
+use Rattle.scripts.specs.declared.commands.Opening.{Opening}
+use Rattle.scripts.specs.declared.commands.Patch.{Patch as Rectangle}
 use Rattle.rehearse.specs.Rooms.{room_of}
-use Rattle.texts.specs.Rows.{NotRead, RowsWritten, relief_shown, rows_text}
-use Rattle.texts.specs.Scripted.{Scripted}
+use Rattle.scripts.specs.Rows.{NotRead, RowsWritten, relief_shown, rows_text}
+use Rattle.scripts.specs.Scripted.{Scripted}
 use Rattle.tones.specs.declared.refusals.ToneRefusal.{ToneRefusal}
 
 -- a call that is accepted or refused
-abbrev pub Plays : {T R : Type 0} → Kind T R → State R → Call R → Result Answer Fault → State R → Type 0
+abbrev pub Plays : {T R : Type 0} → Kind T R → State R → Call R
+    → Result Answer Fault → State R → Type 0
 Plays K s call r t =
-    (x : Result (Unit {0}) Refusal) × (r ≡ call_told x) × Outcome K s call (done x) t
+    (x : Result (Unit {0}) Refusal) × (r ≡ answer_of_call x) × Outcome K s call (done x) t
 
 -- the present draft is handed over, if there is one
-abbrev pub HandsOver : {T R : Type 0} → Kind T R → State R → Option Draft → Result Answer Fault → State R → Type 0
+abbrev pub HandsOver : {T R : Type 0} → Kind T R → State R → Option Draft
+    → Result Answer Fault → State R → Type 0
 HandsOver K s (Some d) r t = Plays K s (Install d) r t
 HandsOver K s None r t = (r ≡ Err Unknown) × (t ≡ s)
 
 -- work: the rows that were redone
 abbrev pub Works : {T R : Type 0} → Kind T R → State R → ℕ → Result Answer Fault → State R → Type 0
-Works K s b r t = (x : Result ℕ Refusal) × (r ≡ work_told x) × Outcome K s (Work b) (number x) t
+Works K s b r t =
+    (x : Result ℕ Refusal) × (r ≡ answer_of_work x) × Outcome K s (Work b) (number x) t
 
 -- the rows that are left
-abbrev pub TellsLeft : {T R : Type 0} → Kind T R → State R → Answer → Type 0
-TellsLeft K s r = (n : ℕ) × (r ≡ told.Number n) × Outcome K s Left (Number n) s
+abbrev pub AnswersLeft : {T R : Type 0} → Kind T R → State R → Answer → Type 0
+AnswersLeft K s r = (n : ℕ) × (r ≡ answer.Number n) × Outcome K s Left (Number n) s
 
 -- the row that is next
-abbrev pub TellsDue : {T R : Type 0} → Kind T R → State R → Answer → Type 0
-TellsDue K s r = (d : Option (ℕ × ℕ)) × (r ≡ told.Due d) × Outcome K s Due (Next d) s
+abbrev pub AnswersDue : {T R : Type 0} → Kind T R → State R → Answer → Type 0
+AnswersDue K s r = (d : Option (ℕ × ℕ)) × (r ≡ answer.Due d) × Outcome K s Due (Next d) s
 
 -- a call on a selector with the bag w and the range R
 abbrev pub Ranks : (ℕ → ℕ) → ℕ → SelectorCall → Result Answer Fault → Type 0
-Ranks w R call r = (x : Result Reply CallRefusal) × Answered w R call x × (r ≡ selector_told x)
+Ranks w R call r = (x : Result Reply CallRefusal) × Answered w R call x × (r ≡ answer_of_selector x)
 
 -- a call that is not made: its words write nothing so, or there was no memory for it
 abbrev pub NotMade : {A : Type 0} → (A → Type 0) → Result Answer Fault → Type 0
 NotMade written r = (f : Fault) × (r ≡ Err f) × NotRead written f
 
--- rows are told by their text
-abbrev pub RowsTold : {R : Type 0} → (R → List ℕ) → List R → Result Answer Fault → Type 0
-RowsTold shown rows r = MatchResult r
-    (λ a. (t : String Global) × (a ≡ told.Rows t) × (string_bytes t ≡ rows_text shown rows))
+-- rows are answered by their text
+abbrev pub RowsAnswered : {R : Type 0} → (R → List ℕ) → List R
+    → Result Answer Fault → Type 0
+RowsAnswered shown rows r = MatchResult r
+    (λ a. (t : String Global) × (a ≡ answer.Rows t) × (string_bytes t ≡ rows_text shown rows))
     (λ f. (m : AllocError) × (f ≡ Memory m))
 
 -- a patch of the rows that the words write
@@ -75,25 +79,27 @@ Patches {R = R} K W s p ws r t = (NotMade (RowsWritten W.written ws) r × (t ≡
     × Plays K s (Patch p.x p.y p.width p.height rows) r t)
 
 -- a piece of the finished card
-abbrev pub PieceTold : {R : Type 0} → (R → List ℕ) → Result (Bor (List R)) Refusal → Result Answer Fault → Type 0
-PieceTold shown (Ok p) r = RowsTold shown p.now r
-PieceTold shown (Err e) r = r ≡ Err (Card e)
+abbrev pub PieceAnswered : {R : Type 0} → (R → List ℕ) → Result (Bor (List R)) Refusal
+    → Result Answer Fault → Type 0
+PieceAnswered shown (Ok p) r = RowsAnswered shown p.now r
+PieceAnswered shown (Err e) r = r ≡ Err (Card e)
 
-abbrev pub TellsRow : {T R : Type 0} → Kind T R → Scripted R → State R
+abbrev pub AnswersRow : {T R : Type 0} → Kind T R → Scripted R → State R
     → ℕ → ℕ → ℕ → Result Answer Fault → Type 0
-TellsRow {R = R} K W s x y n r = (p : Result (Bor (List R)) Refusal)
-    × Outcome K s (Row x y n) (piece p) s × PieceTold W.shown p r
+AnswersRow {R = R} K W s x y n r = (p : Result (Bor (List R)) Refusal)
+    × Outcome K s (Row x y n) (piece p) s × PieceAnswered W.shown p r
 
 -- the memory that a card is opened with: plane 0 has the rows, or zeros where there are none, and
 -- every other plane zeros; rows of another count are all of the memory
-abbrev pub lent : {R : Type 0} → Option (ℕ × ℕ) → R → List R → List R
-lent None zero rows = rows
-lent (Some room) zero rows = if length rows == 0 || length rows == room.1
+abbrev pub memory_for : {R : Type 0} → Option (ℕ × ℕ) → R → List R → List R
+memory_for None zero rows = rows
+memory_for (Some room) zero rows = if length rows == 0 || length rows == room.1
     then take room.0 rows ++ replicate (room.0 - length rows) zero else rows
 
 -- why a card is not opened so on this memory, if it is not
 abbrev pub refused_opening : {T R : Type 0} → Kind T R → ℕ → List R → Opening → Option ℕ
-refused_opening K range memory o = open_refusal K.count range (length memory) o.width o.height o.stages
+refused_opening K range memory o =
+    open_refusal K.count range (length memory) o.width o.height o.stages
 
 -- a card is opened on this memory, which it then has
 pub record Opened {T R : Type 0} (K : Kind T R) (range : ℕ) (s : State R) (o : Opening)
@@ -109,44 +115,48 @@ abbrev pub Opens : {T R : Type 0} → Kind T R → Scripted R → (R → Type 0)
     → Opening → Rest → Result Answer Fault → State R → Type 0
 Opens {R = R} K W Zero range s o ws r t = (NotMade (RowsWritten W.written ws) r × (t ≡ s))
     ⊎ ((rows : List R) × (zero : R) × (x : Result (Unit {0}) Refusal)
-    × RowsWritten W.written ws rows × Zero zero × (r ≡ call_told x)
-    × Opened K range s o (lent (room_of o.width o.height o.stages) zero rows) x t)
+    × RowsWritten W.written ws rows × Zero zero × (r ≡ answer_of_call x)
+    × Opened K range s o (memory_for (room_of o.width o.height o.stages) zero rows) x t)
 
 -- the number of the card's pixels after it
 abbrev pub area_after : Result Answer Fault → Opening → ℕ → ℕ
 area_after (Ok a) o before = o.width * o.height
 area_after (Err f) o before = before
 
--- reliefs are told unless the residue is refused
-abbrev pub ReliefsTold : Result (Unit {0}) Fault → List ℤ → Result Answer Fault → Type 0
-ReliefsTold (Ok _) reliefs r = RowsTold relief_shown reliefs r
-ReliefsTold (Err f) reliefs r = r ≡ Err f
+-- reliefs are answered unless the residue is refused
+abbrev pub ReliefsAnswered : Result (Unit {0}) Fault → List ℤ
+    → Result Answer Fault → Type 0
+ReliefsAnswered (Ok _) reliefs r = RowsAnswered relief_shown reliefs r
+ReliefsAnswered (Err f) reliefs r = r ≡ Err f
 
 -- a residue, into so many reliefs
-abbrev pub TellsResidue : {R : Type 0} → Scripted R → State R → ℕ → Result Answer Fault → Type 0
-TellsResidue W s n r = ((m : AllocError) × (r ≡ Err (Memory m)))
+abbrev pub AnswersResidue : {R : Type 0} → Scripted R → State R → ℕ
+    → Result Answer Fault → Type 0
+AnswersResidue W s n r = ((m : AllocError) × (r ≡ Err (Memory m)))
     ⊎ ((x : Result (Unit {0}) Fault) × (reliefs : List ℤ)
-    × W.residues s.notes s.memory (replicate n (pos 0)) x reliefs × ReliefsTold x reliefs r)
+    × W.residues s.notes s.memory (replicate n (pos 0)) x reliefs × ReliefsAnswered x reliefs r)
 
--- what is told of a load
-abbrev pub load_told : Result (Unit {0}) Fault → Result Answer Fault
-load_told (Ok _) = Ok told.Done
-load_told (Err f) = Err f
+-- the answer of a load
+abbrev pub answer_of_load : Result (Unit {0}) Fault → Result Answer Fault
+answer_of_load (Ok _) = Ok answer.Done
+answer_of_load (Err f) = Err f
 
 -- a load of a file, or of none where it could not be read
 abbrev pub LoadsFile : {R : Type 0} → Scripted R → State R
     → ℕ → ℕ → Option (List ℕ) → Result Answer Fault → State R → Type 0
 LoadsFile W s x y file r t =
-    (l : Result (Unit {0}) Fault) × (r ≡ load_told l) × W.loads s x y file l t
+    (l : Result (Unit {0}) Fault) × (r ≡ answer_of_load l) × W.loads s x y file l t
 
 -- the tone of the parts that the words write: its code, or the refusal where no tone has them
-abbrev pub ToneTold : {T R : Type 0} → Kind T R → R → Result T ToneRefusal → Result Answer Fault → Type 0
-ToneTold K row (Ok t) r = (K.row t ≡ row) × (r ≡ Ok (told.Counted (K.code t)))
-ToneTold {T = T} K row (Err e) r = ((t : T) → K.row t ≢ row) × (r ≡ Err (Tone e))
+abbrev pub ToneAnswered : {T R : Type 0} → Kind T R → R → Result T ToneRefusal
+    → Result Answer Fault → Type 0
+ToneAnswered K row (Ok t) r = (K.row t ≡ row) × (r ≡ Ok (answer.Counted (K.code t)))
+ToneAnswered {T = T} K row (Err e) r = ((t : T) → K.row t ≢ row) × (r ≡ Err (Tone e))
 
-abbrev pub TellsTone : {T R : Type 0} → Kind T R → Scripted R → Rest → Result Answer Fault → Type 0
-TellsTone {T} {R} K W ws r = ((r ≡ Err Unknown) × ((row : R) → W.written ws row → ⊥))
-    ⊎ ((row : R) × (x : Result T ToneRefusal) × W.written ws row × ToneTold K row x r)
+abbrev pub AnswersTone : {T R : Type 0} → Kind T R → Scripted R → Rest
+    → Result Answer Fault → Type 0
+AnswersTone {T} {R} K W ws r = ((r ≡ Err Unknown) × ((row : R) → W.written ws row → ⊥))
+    ⊎ ((row : R) × (x : Result T ToneRefusal) × W.written ws row × ToneAnswered K row x r)
 
 -- the present draft after a call: an install hands it over
 abbrev pub draft_after : Asked → Option Draft → Option Draft
@@ -157,19 +167,19 @@ draft_after call draft = draft
 -- and the range of the card's selector
 module _ {T R : Type 0} (K : Kind T R) (W : Scripted R) (Zero : R → Type 0) (range : ℕ) where
   -- the call that a command asks for is made on the card, with the present draft, or with what is
-  -- read of a file; it is told, and leaves a card with its memory and the number of its pixels
+  -- read of a file; it is answered, and leaves a card with its memory and the number of its pixels
   abbrev pub Made : State R → ℕ → Option Draft → Asked → Result Answer Fault → State R → ℕ → Type 0
   Made s n draft (asked.Open o rows) r t m =
       Opens K W Zero range s o rows.now r t × (m ≡ area_after r o n)
   Made s n draft asked.Install r t m = HandsOver K s draft r t × (m ≡ n)
   Made s n draft (asked.Patch p rows) r t m = Patches K W s p rows.now r t × (m ≡ n)
   Made s n draft (asked.Work b) r t m = Works K s b r t × (m ≡ n)
-  Made s n draft (asked.Row x y count) r t m = TellsRow K W s x y count r × (t ≡ s) × (m ≡ n)
+  Made s n draft (asked.Row x y count) r t m = AnswersRow K W s x y count r × (t ≡ s) × (m ≡ n)
   Made s n draft asked.Left r t m =
-      (a : Answer) × (r ≡ Ok a) × TellsLeft K s a × (t ≡ s) × (m ≡ n)
+      (a : Answer) × (r ≡ Ok a) × AnswersLeft K s a × (t ≡ s) × (m ≡ n)
   Made s n draft asked.Due r t m =
-      (a : Answer) × (r ≡ Ok a) × TellsDue K s a × (t ≡ s) × (m ≡ n)
-  Made s n draft asked.Residue r t m = TellsResidue W s n r × (t ≡ s) × (m ≡ n)
+      (a : Answer) × (r ≡ Ok a) × AnswersDue K s a × (t ≡ s) × (m ≡ n)
+  Made s n draft asked.Residue r t m = AnswersResidue W s n r × (t ≡ s) × (m ≡ n)
   Made s n draft (asked.Load x y path) r t m =
       (file : Option (List ℕ)) × LoadsFile W s x y file r t × (m ≡ n)
-  Made s n draft (asked.Tone parts) r t m = TellsTone K W parts.now r × (t ≡ s) × (m ≡ n)
+  Made s n draft (asked.Tone parts) r t m = AnswersTone K W parts.now r × (t ≡ s) × (m ≡ n)

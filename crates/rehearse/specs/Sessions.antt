@@ -1,23 +1,23 @@
--- What a line of words does to a player and a desk, and what is told of it. Assumes nothing.
+-- What a line of words does to a player and a workspace, and what it is answered. Assumes nothing.
 use Rattle.std.specs.Prelude.{◌≡◌, ◌≢◌, ◌⊎◌, ℕ, List, [], ◌∷◌, false, true, Err, Result}
 use Rattle.std.specs.Borrow.{Bor}
 use Rattle.tones.specs.Kind.{Kind}
 use Rattle.recipes.specs.Placed.{placed}
 use Rattle.selectors.specs.Played.{after}
-use Rattle.lines.specs.Desks.{Drafted, Edited, edit_order, edit_places}
-use Rattle.lines.specs.Lines.{Says}
-use Rattle.lines.specs.Words.{Rest}
-use Rattle.lines.specs.declared.answers.Answer.{Answer}
-use Rattle.lines.specs.declared.answers.Fault.{Fault}
-use Rattle.lines.specs.declared.answers.Fault.TheVariants.{Unknown}
-use Rattle.lines.specs.declared.commands.Command.{Command}
-use Rattle.lines.specs.declared.commands.Command.TheVariants.{Choose, OnElement, OnDraft, OnCard, OnSelector}
-use Rattle.lines.specs.declared.desk.Desk.{Desk}
+use Rattle.scripts.specs.Workspaces.{Drafted, Edited, edit_order, edit_places}
+use Rattle.scripts.specs.Lines.{Says}
+use Rattle.scripts.specs.Words.{Rest}
+use Rattle.scripts.specs.declared.answers.Answer.{Answer}
+use Rattle.scripts.specs.declared.answers.Fault.{Fault}
+use Rattle.scripts.specs.declared.answers.Fault.TheVariants.{Unknown}
+use Rattle.scripts.specs.declared.commands.Command.{Command}
+use Rattle.scripts.specs.declared.commands.Command.TheVariants.{Choose, OnElement, OnDraft, OnCard, OnSelector}
+use Rattle.scripts.specs.declared.workspace.Workspace.{Workspace}
 use Rattle.std.specs.Str.{IsUtf8}
 use Rattle.rehearse.specs.Cuts.{CutInto, is_comment}
 use Rattle.rehearse.specs.Plays.{Made, Ranks, draft_after}
 use Rattle.rehearse.specs.Seen.{Seen, stands}
-use Rattle.texts.specs.Scripted.{Scripted}
+use Rattle.scripts.specs.Scripted.{Scripted}
 use Rattle.rehearse.specs.declared.session.Line.{Line}
 use Rattle.rehearse.specs.declared.session.Line.TheVariants as line
 
@@ -32,9 +32,9 @@ SaysNothing ws = (ws ≢ []) × ((c : Command) → Asks ws c → ⊥)
 
 module _ {T R S : Type 0} (K : Kind T R) (W : Scripted R) (Zero : R → Type 0)
     (weight : S → ℕ → ℕ) (range : S → ℕ) where
-  -- a command is played on a player and a desk, and told
-  abbrev pub Commanded : Seen T R S → Desk → Command
-      → Result Answer Fault → Seen T R S → Desk → Type 0
+  -- a command is played on a player and a workspace, and answered
+  abbrev pub Commanded : Seen T R S → Workspace → Command
+      → Result Answer Fault → Seen T R S → Workspace → Type 0
   Commanded p d (Choose c) r q e = ⊥
   Commanded p d (OnElement edit) r q e = (q ≡ p) × Edited (placed d.element) edit r
       × (placed e.element ≡ edit_places (placed d.element) edit)
@@ -51,22 +51,26 @@ module _ {T R S : Type 0} (K : Kind T R) (W : Scripted R) (Zero : R → Type 0)
       × Made K W Zero (range p.card.selector) (stands weight p) p.area d.draft call r
       (stands weight q) q.area
 
-  -- a line without words is passed over; one with words asks for another card, or is told: its
+  -- a line without words is passed over; one with words asks for another card, or is answered: its
   -- command is played, or it is not read
-  abbrev pub Played : Rest → Seen T R S → Desk → Line → Seen T R S → Desk → Type 0
+  abbrev pub Played : Rest → Seen T R S → Workspace → Line
+      → Seen T R S → Workspace → Type 0
   Played ws p d line.Empty q e = (ws ≡ []) × (q ≡ p) × (e ≡ d)
   Played ws p d (line.Next c) q e = Asks ws (Choose c) × (q ≡ p) × (e ≡ d)
-  Played ws p d (line.Told r) q e = (SaysNothing ws × (r ≡ Err Unknown) × (q ≡ p) × (e ≡ d))
+  Played ws p d (line.Answered r) q e =
+      (SaysNothing ws × (r ≡ Err Unknown) × (q ≡ p) × (e ≡ d))
       ⊎ ((c : Command) × Asks ws c × Commanded p d c r q e)
 
   -- a text is played: the words that it is cut into; a line that is no text is not read
-  abbrev pub TextPlayed : List ℕ → Seen T R S → Desk → Line → Seen T R S → Desk → Type 0
+  abbrev pub TextPlayed : List ℕ → Seen T R S → Workspace → Line
+      → Seen T R S → Workspace → Type 0
   TextPlayed bytes p d l q e =
-      (¬ (IsUtf8 bytes) × (l ≡ line.Told (Err Unknown)) × (q ≡ p) × (e ≡ d))
+      (¬ (IsUtf8 bytes) × (l ≡ line.Answered (Err Unknown)) × (q ≡ p) × (e ≡ d))
       ⊎ (IsUtf8 bytes × ((ws : Rest) × CutInto bytes ws × Played ws p d l q e))
 
   -- a line of these bytes is played: a comment is passed over, text or not
-  abbrev pub LinePlayed : List ℕ → Seen T R S → Desk → Line → Seen T R S → Desk → Type 0
+  abbrev pub LinePlayed : List ℕ → Seen T R S → Workspace → Line
+      → Seen T R S → Workspace → Type 0
   LinePlayed bytes p d l q e =
       ((is_comment bytes ≡ true) × (l ≡ line.Empty) × (q ≡ p) × (e ≡ d))
       ⊎ ((is_comment bytes ≡ false) × TextPlayed bytes p d l q e)

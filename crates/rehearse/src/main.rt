@@ -1,4 +1,5 @@
-//! Plays a script of calls on a card: standard input has one command a line, standard output one answer a line.
+//! Plays a script of calls on a card: one command a line on standard input, one answer a line on
+//! standard output.
 
 #![tactic(auto)]
 
@@ -6,18 +7,14 @@ mod player;
 mod script;
 mod session;
 
-use lines::answers::Answer;
-use lines::commands::{Choice, Tones};
-use lines::desk::Desk;
-use lines::tally::{Summary, Tally};
 use script::Script;
+use scripts::{Answer, Choice, Rows, Summary, Tally, Tones, Workspace};
 use selectors::calls::Kind;
 use selectors::{Gate, Histogram, Ladder};
-use session::{Evening, session};
+use session::{Rehearsal, session};
 use std::ops::ControlFlow;
 use std::process::ExitCode;
 use std::{env, io};
-use texts::rows::Rows;
 use tones::{Colour, Grey, Mark, Relief, Tone};
 
 /// What `--help` prints.
@@ -46,12 +43,17 @@ prints `unknown`, a `load` whose file cannot be read `unreadable`.
 fn with_selector<T: Rows>(
     rt: &HostRuntime,
     selector: Kind,
-    evening: &mut Evening,
+    rehearsal: &mut Rehearsal,
 ) -> io::Result<ControlFlow<usize, Choice>> {
     match selector {
-        Kind::Gate => session::<T, Gate>(rt, Gate::new(), Gate::new(), evening),
-        Kind::Histogram => session::<T, Histogram>(rt, Histogram::new(), Histogram::new(), evening),
-        Kind::Ladder => session::<T, Ladder>(rt, Ladder::new(), Ladder::new(), evening),
+        Kind::Gate => session::<T, Gate>(rt, Gate::new(), Gate::new(), rehearsal),
+        Kind::Histogram => session::<T, Histogram>(
+            rt,
+            Histogram::new(),
+            Histogram::new(),
+            rehearsal,
+        ),
+        Kind::Ladder => session::<T, Ladder>(rt, Ladder::new(), Ladder::new(), rehearsal),
     }
 }
 
@@ -59,42 +61,42 @@ fn with_selector<T: Rows>(
 fn with_card(
     rt: &HostRuntime,
     choice: Choice,
-    evening: &mut Evening,
+    rehearsal: &mut Rehearsal,
 ) -> io::Result<ControlFlow<usize, Choice>> {
     match choice.tones {
-        Tones::Mark => with_selector::<Mark>(rt, choice.selector, evening),
-        Tones::Grey => with_selector::<Grey>(rt, choice.selector, evening),
-        Tones::Relief => with_selector::<Relief>(rt, choice.selector, evening),
-        Tones::Colour => with_selector::<Colour>(rt, choice.selector, evening),
+        Tones::Mark => with_selector::<Mark>(rt, choice.selector, rehearsal),
+        Tones::Grey => with_selector::<Grey>(rt, choice.selector, rehearsal),
+        Tones::Relief => with_selector::<Relief>(rt, choice.selector, rehearsal),
+        Tones::Colour => with_selector::<Colour>(rt, choice.selector, rehearsal),
     }
 }
 
 /// Plays the whole script, session by session, and tells what is left of the last card.
-fn sessions(rt: &HostRuntime, evening: &mut Evening) -> io::Result<usize> {
+fn sessions(rt: &HostRuntime, rehearsal: &mut Rehearsal) -> io::Result<usize> {
     let mut choice = Choice {
         tones: Tones::Grey,
         selector: Kind::Histogram,
     };
     // As many cards as there are: each loop is proved to end.
     for _ in 0..u64::MAX {
-        match with_card(rt, choice, evening)? {
+        match with_card(rt, choice, rehearsal)? {
             ControlFlow::Break(left) => return Ok(left),
             ControlFlow::Continue(next) => choice = next,
         }
-        evening.tell(rt, Ok(Answer::Done))?;
+        rehearsal.answer(rt, Ok(Answer::Done))?;
     }
     Ok(0)
 }
 
 /// Plays the script on standard input, and says the last line.
 fn rehearse(rt: &HostRuntime) -> io::Result<()> {
-    let mut evening = Evening {
+    let mut rehearsal = Rehearsal {
         script: Script::new(rt)?,
-        desk: Desk::new(),
+        workspace: Workspace::new(),
         tally: Tally::new(),
     };
-    let left = sessions(rt, &mut evening)?;
-    let tally = evening.tally;
+    let left = sessions(rt, &mut rehearsal)?;
+    let tally = rehearsal.tally;
     println!(rt; "{}", Summary { tally, left })
 }
 

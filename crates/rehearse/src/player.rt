@@ -7,22 +7,19 @@ ghost use Rattle.calls.specs.Calls.Call.{Left};
 ghost use Rattle.calls.specs.Outcomes.{Outcome};
 ghost use Rattle.cards.specs.Meanings.{InOrder, notes};
 ghost use Rattle.rehearse.specs.Seen.{Seen, stands};
-ghost use Rattle.rehearse.specs.Plays.{HandsOver, LoadsFile, Opens, Patches, Ranks, TellsDue, TellsLeft, TellsResidue, TellsRow, TellsTone, Works, area_after, lent};
+ghost use Rattle.rehearse.specs.Plays.{AnswersDue, AnswersLeft, AnswersResidue, AnswersRow, AnswersTone, HandsOver, LoadsFile, Opens, Patches, Ranks, Works, area_after, memory_for};
 ghost use Rattle.rehearse.specs.Rooms.{room_of};
 ghost use Rattle.selectors.specs.Played.{after};
 
 use cards::card::Card;
-use lines::answers::{Answer, Fault};
-use lines::commands::{Opening, Patch};
 use planes::frame::Frame;
 use planes::size::Size;
 use recipes::draft::Draft;
+use scripts::{Answer, Fault, Opening, Patch, Rows, rows_read, rows_shown};
 use selectors::Selector;
 use selectors::calls::{Call, play};
 use std::alloc::{AllocError, Global};
 use std::marker::Model;
-use texts::lists::{rows_read, rows_shown};
-use texts::rows::Rows;
 use tones::{Relief, Tone};
 
 /// The card, its memory, the number of pixels of the card, and the selector.
@@ -37,12 +34,19 @@ pub struct Player<T: Rows, S: Selector> {
 impl<T: Rows, S: Selector> Model for Player<T, S> {
     ghost Value = { Seen T T.Row S };
 
-    ghost view = { λ p. record { card = p.card; memory = p.memory.items; area = p.area; own = p.own } };
+    ghost view = { λ p. record {
+      card = p.card;
+      memory = p.memory.items;
+      area = p.area;
+      own = p.own;
+    } };
 
-    ghost invariant = { λ p. InOrder T.Tone.kind S.Selector.range S.Selector.ordered p.card × S.Selector.ordered p.own };
+    ghost invariant = { λ p. InOrder T.Tone.kind S.Selector.range S.Selector.ordered p.card
+        × S.Selector.ordered p.own };
 }
 
-/// How many rows the memory has and how many plane 0 has; none where a number is outside its limits.
+/// How many rows the memory has and how many plane 0 has; none where a number is outside its
+/// limits.
 pub fn room(opening: Opening) -> Option<(usize, usize)>
     ensures { result ≡ room_of opening.width opening.height opening.stages }
 {
@@ -58,12 +62,14 @@ pub fn room(opening: Opening) -> Option<(usize, usize)>
     Some((frame.start(stages + 1), frame.area()))
 }
 
-/// The memory that a card is opened with: all planes, where the rows fill plane 0 or there are none; else these rows alone.
-fn lent<R: Copy + Default>(
+/// The memory that a card is opened with: all planes, where the rows fill plane 0 or there are
+/// none; else these rows alone.
+fn memory_for<R: Copy + Default>(
     mut rows: Vec<R>,
     room: Option<(usize, usize)>,
 ) -> Result<Vec<R>, AllocError>
-    ensures { IfOk result (λ memory. (zero : R) × R.Default.is_default zero × (memory.items ≡ lent room zero rows.items)) }
+    ensures { IfOk result (λ memory. (zero : R) × R.Default.is_default zero
+        × (memory.items ≡ memory_for room zero rows.items)) }
 {
     let blank = R::default();
     if let Some((all, area)) = room {
@@ -99,7 +105,8 @@ impl<T: Rows, S: Selector> Player<T, S> {
         self.card.left()
     }
 
-    /// Opens the card with these rows in plane 0, or zeros where there are none. With rows of another count they are all of the memory, which is then refused unless they fill it.
+    /// Opens the card with these rows in plane 0, or zeros where there are none. Rows of another
+    /// count are all of the memory, which is then refused unless they fill it.
     pub fn open(&mut self, heap: Global, opening: Opening, words: &[&str]) -> Result<Answer, Fault>
         ensures outcome { let range = S.Selector.range self.old.card.selector in
             Opens T.Tone.kind T.Rows.scripted T.Row.Default.is_default range
@@ -109,7 +116,7 @@ impl<T: Rows, S: Selector> Player<T, S> {
         ensures own { self.new.own ≡ self.old.own }
     {
         let room = room(opening);
-        let rows = lent(rows_read::<T>(heap, words)?, room)?;
+        let rows = memory_for(rows_read::<T>(heap, words)?, room)?;
         let Opening {
             width,
             height,
@@ -163,29 +170,31 @@ impl<T: Rows, S: Selector> Player<T, S> {
 
     /// Tells a piece of the finished card.
     pub fn row(&self, heap: Global, x: usize, y: usize, n: usize) -> Result<Answer, Fault>
-        ensures { TellsRow T.Tone.kind T.Rows.scripted (stands S.Selector.weight self.now) x y n result }
+        ensures { AnswersRow T.Tone.kind T.Rows.scripted
+            (stands S.Selector.weight self.now) x y n result }
     {
         let rows = self.card.row(self.memory.as_slice(), x, y, n)?;
         Ok(Answer::Rows(rows_shown::<T>(heap, rows)?))
     }
 
     /// Tells the stale rows.
-    pub fn tell_left(&self) -> Answer
-        ensures { TellsLeft T.Tone.kind (stands S.Selector.weight self.now) result }
+    pub fn answer_left(&self) -> Answer
+        ensures { AnswersLeft T.Tone.kind (stands S.Selector.weight self.now) result }
     {
         Answer::Number(self.card.left() as u64)
     }
 
     /// Tells the next row.
-    pub fn tell_due(&self) -> Answer
-        ensures { TellsDue T.Tone.kind (stands S.Selector.weight self.now) result }
+    pub fn answer_due(&self) -> Answer
+        ensures { AnswersDue T.Tone.kind (stands S.Selector.weight self.now) result }
     {
         Answer::Due(self.card.due())
     }
 
     /// Tells raw minus finished; not read where the kind has no residues.
     pub fn residue(&self, heap: Global) -> Result<Answer, Fault>
-        ensures { TellsResidue T.Rows.scripted (stands S.Selector.weight self.now) self.now.area result }
+        ensures { AnswersResidue T.Rows.scripted
+            (stands S.Selector.weight self.now) self.now.area result }
     {
         let mut reliefs = vec![in heap; 0i16; self.area]?;
         T::residue(&self.card, self.memory.as_slice(), reliefs.as_mut_slice())?;
@@ -206,7 +215,7 @@ impl<T: Rows, S: Selector> Player<T, S> {
 
     /// Makes a tone of these parts, and tells its code.
     pub fn tone(&self, words: &[&str]) -> Result<Answer, Fault>
-        ensures { TellsTone T.Tone.kind T.Rows.scripted words.now result }
+        ensures { AnswersTone T.Tone.kind T.Rows.scripted words.now result }
     {
         let row = T::read(words).ok_or(Fault::Unknown)?;
         let tone = T::make(row)?;
@@ -215,9 +224,12 @@ impl<T: Rows, S: Selector> Player<T, S> {
 
     /// Makes the call on the program's own selector.
     pub fn ranks(&mut self, call: Call) -> Result<Answer, Fault>
-        ensures answer { Ranks (S.Selector.weight self.old.own) (S.Selector.range self.old.own) call result }
-        ensures kept { (self.new.card ≡ self.old.card) × (self.new.memory ≡ self.old.memory) × (self.new.area ≡ self.old.area) }
-        ensures weights { (c : ℕ) → S.Selector.weight self.new.own c ≡ after (S.Selector.weight self.old.own) (S.Selector.range self.old.own) call c }
+        ensures answer { Ranks (S.Selector.weight self.old.own) (S.Selector.range self.old.own)
+            call result }
+        ensures kept { (self.new.card ≡ self.old.card) × (self.new.memory ≡ self.old.memory)
+            × (self.new.area ≡ self.old.area) }
+        ensures weights { (c : ℕ) → S.Selector.weight self.new.own c
+            ≡ after (S.Selector.weight self.old.own) (S.Selector.range self.old.own) call c }
     {
         let reply = play(&mut self.own, call)?;
         Ok(reply.into())

@@ -1,6 +1,6 @@
 //! The script: standard input, line by line.
 
-ghost use Rattle.lines.specs.Told.{one_more};
+ghost use Rattle.scripts.specs.Answers.{one_more};
 ghost use Rattle.rehearse.specs.Cuts.{CutInto, is_comment};
 ghost use Rattle.std.specs.Io.{StopsAt};
 ghost use Rattle.std.specs.Prelude.{◌≡◌, ◌<◌, ◌≤◌, ◌↔◌, [], IfOk, IfSome, IsTrue, MatchOption, length};

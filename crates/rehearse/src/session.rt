@@ -2,43 +2,40 @@
 
 ghost use Rattle.std.specs.Prelude.{◌≡◌, IfErr, IfOk};
 ghost use Rattle.rehearse.specs.Seen.{stands};
-ghost use Rattle.lines.specs.Told.{first_after, played_after, refused_after, unknown_after};
+ghost use Rattle.scripts.specs.Answers.{first_after, played_after, refused_after, unknown_after};
 ghost use Rattle.rehearse.specs.Plays.{Made, draft_after};
 ghost use Rattle.rehearse.specs.Sessions.{LinePlayed, Played};
 
 use crate::player::Player;
 use crate::script::{Script, bytes_of, words_of};
-use lines::answers::{Answer, Fault};
-use lines::commands::{Call, Choice, Command};
-use lines::desk::Desk;
-use lines::reading::read_command;
-use lines::tally::Tally;
+use scripts::{Answer, Call, Choice, Command, Fault, Rows, Tally, Workspace, read_command};
 use selectors::Selector;
 use std::alloc::AllocError;
 use std::io;
 use std::ops::ControlFlow;
-use texts::rows::Rows;
 
 /// What stays from card to card.
 #[derive(Drop)]
-pub struct Evening {
+pub struct Rehearsal {
     pub script: Script,
-    pub desk: Desk,
+    pub workspace: Workspace,
     pub tally: Tally,
 }
 
-impl Evening {
-    /// Counts what is told of the present line, and prints it. Where there was no memory for a call, the program ends.
-    pub fn tell(&mut self, rt: &HostRuntime, told: Result<Answer, Fault>) -> io::Result<()>
-        ensures played { self.new.tally.played ≡ played_after told self.old.tally.played }
-        ensures refused { self.new.tally.refused ≡ refused_after told self.old.tally.refused }
-        ensures unknown { self.new.tally.unknown ≡ unknown_after told self.old.tally.unknown }
+impl Rehearsal {
+    /// Counts the answer to the present line, and prints it. Where there was no memory for a call,
+    /// the program ends.
+    pub fn answer(&mut self, rt: &HostRuntime, answered: Result<Answer, Fault>) -> io::Result<()>
+        ensures played { self.new.tally.played ≡ played_after answered self.old.tally.played }
+        ensures refused { self.new.tally.refused ≡ refused_after answered self.old.tally.refused }
+        ensures unknown { self.new.tally.unknown ≡ unknown_after answered self.old.tally.unknown }
         ensures first { self.new.tally.first
-            ≡ first_after told self.old.script.number self.old.tally.first }
-        ensures kept { (self.new.desk ≡ self.old.desk) × (self.new.script ≡ self.old.script) }
+            ≡ first_after answered self.old.script.number self.old.tally.first }
+        ensures kept { (self.new.workspace ≡ self.old.workspace)
+            × (self.new.script ≡ self.old.script) }
     {
-        self.tally.count(&told, self.script.number);
-        match told {
+        self.tally.count(&answered, self.script.number);
+        match answered {
             Ok(answer) => println!(rt; "{answer}"),
             Err(Fault::Memory(error)) => Err(error.into()),
             Err(fault) => println!(rt; "{fault}"),
@@ -53,34 +50,34 @@ pub enum Line {
     Empty,
     /// Another card.
     Next(Choice),
-    /// A call, or a line that is not read; what is told of it.
-    Told(Result<Answer, Fault>),
+    /// A call, or a line that is not read; what it is answered.
+    Answered(Result<Answer, Fault>),
 }
 
 /// Makes the call on the card.
 fn call<T: Rows, S: Selector>(
     rt: &HostRuntime,
     player: &mut Player<T, S>,
-    desk: &mut Desk,
+    workspace: &mut Workspace,
     call: Call,
 ) -> Result<Answer, Fault>
     ensures made { let range = S.Selector.range player.old.card.selector in
         Made T.Tone.kind T.Rows.scripted T.Row.Default.is_default range
-        (stands S.Selector.weight player.old) player.old.area desk.old.draft call.entry result
+        (stands S.Selector.weight player.old) player.old.area workspace.old.draft call.entry result
         (stands S.Selector.weight player.new) player.new.area }
     ensures own { player.new.own ≡ player.old.own }
-    ensures desk { (desk.new.element ≡ desk.old.element)
-        × (desk.new.draft ≡ draft_after call.entry desk.old.draft) }
+    ensures workspace { (workspace.new.element ≡ workspace.old.element)
+        × (workspace.new.draft ≡ draft_after call.entry workspace.old.draft) }
 {
     let heap = rt.alloc();
     match call {
         Call::Open(opening, rows) => player.open(heap, opening, rows),
-        Call::Install => player.install(desk.hand_over()),
+        Call::Install => player.install(workspace.hand_over()),
         Call::Patch(patch, rows) => player.patch(heap, patch, rows),
         Call::Work(budget) => player.work(budget),
         Call::Row(x, y, n) => player.row(heap, x, y, n),
-        Call::Left => Ok(player.tell_left()),
-        Call::Due => Ok(player.tell_due()),
+        Call::Left => Ok(player.answer_left()),
+        Call::Due => Ok(player.answer_due()),
         Call::Residue => player.residue(heap),
         Call::Load(x, y, path) => player.load(x, y, bytes_of(rt, path)),
         Call::Tone(parts) => player.tone(parts),
@@ -91,56 +88,61 @@ fn call<T: Rows, S: Selector>(
 fn play<T: Rows, S: Selector>(
     rt: &HostRuntime,
     player: &mut Player<T, S>,
-    desk: &mut Desk,
+    workspace: &mut Workspace,
     words: &[&str],
 ) -> Line
     ensures { Played T.Tone.kind T.Rows.scripted T.Row.Default.is_default
         S.Selector.weight S.Selector.range
-        words.now player.old desk.old result player.new desk.new }
+        words.now player.old workspace.old result player.new workspace.new }
 {
     let [name, rest @ ..] = words else {
         return Line::Empty;
     };
     let Some(command) = read_command(name, rest) else {
-        return Line::Told(Err(Fault::Unknown));
+        return Line::Answered(Err(Fault::Unknown));
     };
     match command {
         Command::Choose(choice) => Line::Next(choice),
-        Command::OnElement(edit) => Line::Told(desk.edit(edit)),
-        Command::OnDraft(drafting) => Line::Told(desk.draft(drafting)),
-        Command::OnSelector(asked) => Line::Told(player.ranks(asked)),
-        Command::OnCard(asked) => Line::Told(call(rt, player, desk, asked)),
+        Command::OnElement(edit) => Line::Answered(workspace.edit(edit)),
+        Command::OnDraft(drafting) => Line::Answered(workspace.draft(drafting)),
+        Command::OnSelector(asked) => Line::Answered(player.ranks(asked)),
+        Command::OnCard(asked) => Line::Answered(call(rt, player, workspace, asked)),
     }
 }
 
-/// Plays the present line. A comment is passed over, text or not; any other that is no text is not read.
+/// Plays the present line. A comment is passed over, text or not; any other that is no text is
+/// not read.
 fn play_line<T: Rows, S: Selector>(
     rt: &HostRuntime,
     player: &mut Player<T, S>,
-    evening: &mut Evening,
+    rehearsal: &mut Rehearsal,
 ) -> Result<Line, AllocError>
-    ensures line { IfOk result (λ line. LinePlayed T.Tone.kind T.Rows.scripted T.Row.Default.is_default
-        S.Selector.weight S.Selector.range evening.old.script.line.items
-        player.old evening.old.desk line player.new evening.new.desk) }
-    ensures unplayed { IfErr result (λ _. (player.new ≡ player.old) × (evening.new.desk ≡ evening.old.desk)) }
-    ensures kept { (evening.new.tally ≡ evening.old.tally) × (evening.new.script ≡ evening.old.script) }
+    ensures line { IfOk result (λ line. LinePlayed
+        T.Tone.kind T.Rows.scripted T.Row.Default.is_default
+        S.Selector.weight S.Selector.range rehearsal.old.script.line.items
+        player.old rehearsal.old.workspace line player.new rehearsal.new.workspace) }
+    ensures unplayed { IfErr result (λ _. (player.new ≡ player.old)
+        × (rehearsal.new.workspace ≡ rehearsal.old.workspace)) }
+    ensures kept { (rehearsal.new.tally ≡ rehearsal.old.tally)
+        × (rehearsal.new.script ≡ rehearsal.old.script) }
 {
-    if evening.script.is_comment() {
+    if rehearsal.script.is_comment() {
         return Ok(Line::Empty);
     }
-    let Some(text) = evening.script.text() else {
-        return Ok(Line::Told(Err(Fault::Unknown)));
+    let Some(text) = rehearsal.script.text() else {
+        return Ok(Line::Answered(Err(Fault::Unknown)));
     };
     let words = words_of(rt.alloc(), text)?;
-    Ok(play(rt, player, &mut evening.desk, words.as_slice()))
+    Ok(play(rt, player, &mut rehearsal.workspace, words.as_slice()))
 }
 
-/// Plays lines until another card is asked for, which goes on with its choice, or the script is over, with so many rows left.
+/// Plays lines until another card is asked for, which goes on with its choice, or the script is
+/// over, with so many rows left.
 pub fn session<T: Rows, S: Selector + Drop>(
     rt: &HostRuntime,
     selector: S,
     own: S,
-    evening: &mut Evening,
+    rehearsal: &mut Rehearsal,
 ) -> io::Result<ControlFlow<usize, Choice>>
     requires selector { S.Selector.ordered selector }
     requires own { S.Selector.ordered own }
@@ -148,13 +150,13 @@ pub fn session<T: Rows, S: Selector + Drop>(
     let mut player = Player::<T, S>::new(rt.alloc(), selector, own);
     // As many lines as there are: each loop is proved to end.
     for _ in 0..u64::MAX {
-        if !evening.script.advance()? {
+        if !rehearsal.script.advance()? {
             break;
         }
-        match play_line(rt, &mut player, evening)? {
+        match play_line(rt, &mut player, rehearsal)? {
             Line::Empty => {}
             Line::Next(choice) => return Ok(ControlFlow::Continue(choice)),
-            Line::Told(told) => evening.tell(rt, told)?,
+            Line::Answered(answered) => rehearsal.answer(rt, answered)?,
         }
     }
     Ok(ControlFlow::Break(player.left()))

@@ -1,5 +1,5 @@
 use Rattle.std.proofs.Common.{◌++◌}
-use Rattle.lines.specs.Words.{Rest}
+use Rattle.scripts.specs.Words.{Rest}
 use Rattle.rehearse.specs.Cuts.{CutInto}
 use Rattle.rehearse.proofs.script.words_of.Given as goal
 

@@ -1,6 +1,6 @@
 use Rattle.std.proofs.Common.{rules, ◌≡◌, Ok, Err, inr, refl, ap, ◌∙◌, string_bytes}
 use Rattle.std.proofs.lemmas.Grind.{common_steps}
-use Rattle.texts.specs.Rows.{relief_shown, rows_text}
+use Rattle.scripts.specs.Rows.{relief_shown, rows_text}
 use Rattle.rehearse.proofs.player.Player.residue.Goals as goal
 
 pub returns-in_err-residue : goal.returns-in_err-residue

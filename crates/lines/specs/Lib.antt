@@ -1,5 +1,0 @@
-pub mod Desks
-pub mod Lines
-pub mod Shown
-pub mod Told
-pub mod Words

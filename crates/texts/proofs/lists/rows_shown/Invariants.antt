@@ -1,7 +1,0 @@
-use Rattle.std.proofs.Common.{◌≡◌, take, string_bytes}
-use Rattle.texts.specs.Rows.{rows_text}
-use Rattle.texts.proofs.lists.rows_shown.Given as goal
-
--- the text shows the rows so far
-abbrev pub invariant-loop-row : goal.invariant-loop-row
-invariant-loop-row g l = string_bytes l.text ≡ rows_text g.T.Rows.scripted.shown (take l.row-index l.rows)
