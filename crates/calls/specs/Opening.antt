@@ -29,5 +29,7 @@ memory_of width height stages =
 abbrev pub open_refusal : ℕ → ℕ → ℕ → ℕ → ℕ → ℕ → Option ℕ
 open_refusal tones range long width height stages =
     if limits width height stages
-    then (if long == room (fresh width height stages) then (if nat_le tones range then None else Some 15) else Some 14)
+    then (if long == room (fresh width height stages)
+    then (if nat_le tones range then None else Some 15)
+    else Some 14)
     else Some 13

@@ -49,7 +49,9 @@ weighed = added (added (added (λ c. 0) 5 2) 7 3) 9 1
 
 -- the one answer at a rank, of a selector with those weights and any range that has the codes
 abbrev pub AtRank : ℕ → Result ℕ SelectRefusal → Type 0
-AtRank r x = (range : ℕ) → 10 ≤ range → Selected weighed range r x × ((y : Result ℕ SelectRefusal) → Selected weighed range r y → y ≡ x)
+AtRank r x =
+    (range : ℕ) → 10 ≤ range → Selected weighed range r x
+    × ((y : Result ℕ SelectRefusal) → Selected weighed range r y → y ≡ x)
 
 pub record SelectorExamples : Type 0 where
   -- ranks 2, 3, 5 and 6 give 5, 7, 7 and 9
@@ -66,13 +68,15 @@ pub record SelectorExamples : Type 0 where
 abbrev pub HasCode : ℕ → ℕ → ℕ → ℕ → Type 0
 HasCode hue saturation brightness n =
     Making (parts hue saturation brightness) (Ok (colour hue saturation brightness))
-    × ((r : Result Colour ToneRefusal) → Making (parts hue saturation brightness) r → MatchResult r (λ c. colours.code c ≡ n) (λ e. ⊥))
+    × ((r : Result Colour ToneRefusal) → Making (parts hue saturation brightness) r
+    → MatchResult r (λ c. colours.code c ≡ n) (λ e. ⊥))
 
 -- three parts are refused with that number, and making them gives nothing else
 abbrev pub RefusedWith : ℕ → ℕ → ℕ → ℕ → Type 0
 RefusedWith hue saturation brightness n =
     Making (parts hue saturation brightness) (Err OutsideLimits)
-    × ((r : Result Colour ToneRefusal) → Making (parts hue saturation brightness) r → MatchResult r (λ c. ⊥) (λ e. tone_number e ≡ n))
+    × ((r : Result Colour ToneRefusal) → Making (parts hue saturation brightness) r
+    → MatchResult r (λ c. ⊥) (λ e. tone_number e ≡ n))
 
 pub record ColourExamples : Type 0 where
   -- hue, saturation and brightness 0, 255, 0 have code 0; 120, 200, 10 have 941,520; 359, 0, 255 have 23,592,959
@@ -88,7 +92,8 @@ pub record ToneExamples : Type 0 where
   -- the grey 250 raised by 10, as a dilation raises it, is 255
   pub raised : (t : Grey) → t.level ≡ 250 → (shifted greys Dilation t (pos 10)).level ≡ 255
   -- the relief -250 lowered by 10 is -255
-  pub relief : (t : Relief) → t.height ≡ negsuc 249 → (reliefs.lowered t (pos 10)).height ≡ negsuc 254
+  pub relief :
+      (t : Relief) → t.height ≡ negsuc 249 → (reliefs.lowered t (pos 10)).height ≡ negsuc 254
 
 pub record OrderExamples : Type 0 where
   -- shape 0 is the cross
@@ -190,23 +195,30 @@ pub record TwoStageRules (d : Draft) (t : ℕ) : Type 0 where
   pub left : Says greys three 2 card (history d 6 t) Left (Number 5)
   pub idle : Says greys three 2 card (history d 6 t) (Work 0) (Number 0)
   pub enough : Says greys three 2 card (history d 6 t) (Work 9) (Number 5)
-  pub none_left : Says greys three 2 card (noted (Work 9) (Number 5) (history d 6 t)) Left (Number 0)
+  pub none_left :
+      Says greys three 2 card (noted (Work 9) (Number 5) (history d 6 t)) Left (Number 0)
 
 -- a draft is refused with 19, by its finish, which gives nothing else, and by every card of greys
 pub record IsTooShort (d : Draft) : Type 0 where
   pub short : Finished d (Err TooFew)
-  pub finish : (r : Result Recipe DraftRefusal) → Finished d r → MatchResult r (λ k. ⊥) (λ e. draft_number e ≡ 19)
+  pub finish :
+      (r : Result Recipe DraftRefusal) → Finished d r
+      → MatchResult r (λ k. ⊥) (λ e. draft_number e ≡ 19)
   pub refused : (span most : ℕ) → install_refusal span most d ≡ Some 19
   pub install : (o : Open ℕ) → answer_open greys o (Install d) ≡ Refused 19
 
 -- a draft without steps makes the recipe without stages, which every card of greys takes, and of which the finished card is the raw card
 pub record NoSteps (d : Draft) : Type 0 where
-  pub finish : (r : Result Recipe DraftRefusal) → Finished d r → MatchResult r (λ k. staged k ≡ []) (λ e. ⊥)
+  pub finish :
+      (r : Result Recipe DraftRefusal) → Finished d r
+      → MatchResult r (λ k. staged k ≡ []) (λ e. ⊥)
   pub stages : drafted d ≡ []
   pub install : (o : Open ℕ) → answer_open greys o (Install d) ≡ Done
   pub makes : (size : Size) (f : Picture Grey) (x y : ℕ) → made greys size (drafted d) f x y ≡ f x y
   -- so row 1 of the card 10 20 30 / 40 50 60 / 70 80 90 is handed out as 40 50 60, and nothing is left
-  pub row : (w : ℕ → ℕ) → answer (after (fresh_card w) (Install d)) (Row 0 1 3) ≡ Piece (40 ∷ 50 ∷ 60 ∷ [])
+  pub row :
+      (w : ℕ → ℕ)
+      → answer (after (fresh_card w) (Install d)) (Row 0 1 3) ≡ Piece (40 ∷ 50 ∷ 60 ∷ [])
   pub left : (w : ℕ → ℕ) → answer (after (fresh_card w) (Install d)) Left ≡ Number 0
 
 pub record DraftExamples : Type 0 where
@@ -231,7 +243,9 @@ pub record ResidueExamples (d : Draft) (w : ℕ → ℕ) : Type 0 where
   pub leaves : difference 20 25 ≡ negsuc 4
   -- the residue of the card is done, and -5 stands where any relief stood
   pub done : residue_answer (one_pixel w d).notes (one_pixel w d).memory 1 ≡ Done
-  pub reliefs_after : (z : ℤ) → residue_after (one_pixel w d).notes (one_pixel w d).memory (z ∷ []) ≡ negsuc 4 ∷ []
+  pub reliefs_after :
+      (z : ℤ)
+      → residue_after (one_pixel w d).notes (one_pixel w d).memory (z ∷ []) ≡ negsuc 4 ∷ []
 
 -- there are such drafts
 pub record DraftsThere : Type 0 where
