@@ -1,5 +1,5 @@
 -- Stale areas: a rectangle or nothing for each stage, the first stage's first. Assumes nothing.
-use Rattle.std.specs.Prelude.{◌≡◌, ℕ, ◌+◌, ◌-◌, ◌<◌, ◌≤◌, max, Bool, true, cond, ◌&&◌, List, [], ◌∷◌, length, map, Some, None, Option, nat_le, nat_lt}
+use Rattle.std.specs.Prelude.{◌≡◌, ℕ, ◌+◌, ◌-◌, ◌<◌, ◌≤◌, max, Bool, true, if◌then◌else◌, ◌&&◌, List, [], ◌∷◌, length, map, Some, None, Option, nat_le, nat_lt}
 use Rattle.std.specs.List.{slice_get}
 use Rattle.std.specs.Option.{MatchOption}
 use Rattle.planes.specs.declared.size.Size.{Size}
@@ -106,7 +106,7 @@ crosses r x y n =
 -- the first column of the piece that an area holds
 abbrev pub met : Area → ℕ → ℕ → ℕ → Option ℕ
 met None x y n = None
-met (Some r) x y n = cond (crosses r x y n) (Some (max x r.left)) None
+met (Some r) x y n = if crosses r x y n then Some (max x r.left) else None
 
 -- no pixel of the piece is stale
 pub record Misses (a : Area) (x y n : ℕ) : Type 0 where

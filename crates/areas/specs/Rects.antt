@@ -1,5 +1,5 @@
 -- Rectangles of pixels on a card. Assumes nothing.
-use Rattle.std.specs.Prelude.{ℕ, ◌+◌, ◌-◌, ◌<◌, ◌≤◌, min, max, Bool, cond, ◌&&◌, Some, None, Option, nat_le, nat_lt}
+use Rattle.std.specs.Prelude.{ℕ, ◌+◌, ◌-◌, ◌<◌, ◌≤◌, min, max, Bool, if◌then◌else◌, ◌&&◌, Some, None, Option, nat_le, nat_lt}
 use Rattle.planes.specs.declared.size.Size.{Size}
 use Rattle.recipes.specs.declared.recipe.Stage.{Stage}
 use Rattle.recipes.specs.Extents.{Within, across, down}
@@ -37,9 +37,9 @@ stretch_fits from many end = nat_lt 0 many && nat_le (from + many) end
 -- the rectangle of a corner, a width and a height, if it has a pixel and lies wholly on the card
 abbrev pub rect_on : Size → ℕ → ℕ → ℕ → ℕ → Option Rect
 rect_on size x y width height =
-    cond (stretch_fits x width size.width && stretch_fits y height size.height)
-    (Some (record { left = x; top = y; right = x + width; bottom = y + height }))
-    None
+    if stretch_fits x width size.width && stretch_fits y height size.height
+    then Some (record { left = x; top = y; right = x + width; bottom = y + height })
+    else None
 
 -- a rectangle, widened by a stage's reach on each side and cut to the card
 abbrev pub widened : Size → Stage → Rect → Rect
@@ -90,6 +90,6 @@ joined r (Some q) = hull r q
 -- a rectangle less its top row; nothing where no row is left
 abbrev pub lessened : Rect → Option Rect
 lessened r =
-    cond (nat_lt (r.top + 1) r.bottom)
-    (Some (record { left = r.left; top = r.top + 1; right = r.right; bottom = r.bottom }))
-    None
+    if nat_lt (r.top + 1) r.bottom
+    then Some (record { left = r.left; top = r.top + 1; right = r.right; bottom = r.bottom })
+    else None

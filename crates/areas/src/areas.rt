@@ -27,13 +27,13 @@ impl Areas {
     ghost use Rattle.areas.specs.Areas.{FirstMet, all_stale, dropped, last_area, lowest, met};
     ghost use Rattle.areas.specs.Areas.{next_of, spread, stale_rows};
     ghost use Rattle.areas.specs.Arising.{Arising};
-    ghost use Rattle.areas.specs.Listed.{listed};
+    ghost use Rattle.areas.specs.Listed.{listed, frame_of};
     ghost use Rattle.areas.specs.Meanings.{Leaves, NextIs, Spreads, some_stale};
     ghost use Rattle.areas.specs.Rects.{Fits, Holds};
 
     /// No stages, nothing stale.
     pub fn none(frame: Frame) -> Areas
-        ensures frame { result.frame ≡ frame }
+        ensures frame { frame_of result ≡ frame }
         ensures areas { listed result ≡ [] }
     {
         Areas {
@@ -46,7 +46,7 @@ impl Areas {
     /// Every stage's area is the whole card.
     pub fn all_stale(frame: Frame, stages: &[Stage]) -> Areas
         requires few { length stages.now ≤ 8 }
-        ensures frame { result.frame ≡ frame }
+        ensures frame { frame_of result ≡ frame }
         ensures areas { listed result ≡ all_stale frame.size stages.now }
     {
         Areas {
@@ -58,25 +58,25 @@ impl Areas {
 
     /// The size of the card, within its limits.
     pub fn frame(&self) -> Frame
-        ensures { result ≡ self.now.frame }
+        ensures { result ≡ frame_of self.now }
     {
         self.frame
     }
 
     /// The size of the card.
     pub fn size(&self) -> Size
-        ensures { result ≡ self.now.frame.size }
+        ensures { result ≡ (frame_of self.now).size }
     {
         self.frame.size
     }
 
     /// A written rectangle makes stale what the stages make of it.
     pub fn spread(&mut self, stages: &[Stage], rect: Rect)
-        requires { Fits self.old.frame.size rect }
-        ensures frame { self.new.frame ≡ self.old.frame }
-        ensures areas { let size = self.old.frame.size in
+        requires { Fits (frame_of self.old).size rect }
+        ensures frame { frame_of self.new ≡ frame_of self.old }
+        ensures areas { let size = (frame_of self.old).size in
             listed self.new ≡ spread size stages.now rect (listed self.old) }
-        ensures meaning { let size = self.old.frame.size in
+        ensures meaning { let size = (frame_of self.old).size in
             Spreads size stages.now (Holds rect) (listed self.old) (listed self.new) }
     {
         // By index: a proof knows nothing of what is written through a `zip` of `iter_mut`.
@@ -104,7 +104,7 @@ impl Areas {
 
     /// The top row of the lowest stage with an area leaves it.
     pub fn drop_row(&mut self)
-        ensures frame { self.new.frame ≡ self.old.frame }
+        ensures frame { frame_of self.new ≡ frame_of self.old }
         ensures areas { listed self.new ≡ dropped (listed self.old) }
         ensures meaning { Leaves (listed self.old) (next_of (listed self.old)) (listed self.new) }
         ensures rows { stale_rows (listed self.new) ≡ stale_rows (listed self.old) - 1 }
@@ -119,7 +119,7 @@ impl Areas {
         ensures answer { result ≡ stale_rows (listed self.now) }
         ensures bound { result ≤ 2048 }
         ensures some { nat_lt 0 result ≡ some_stale (listed self.now) }
-        ensures arising { Arising self.now.frame.size (listed self.now) }
+        ensures arising { Arising (frame_of self.now).size (listed self.now) }
     {
         rows_of(self.listed())
     }

@@ -16,7 +16,7 @@ use Rattle.calls.specs.Calls.{State, Call, Answer}
 use Rattle.calls.specs.Calls.Call.{Patch, Install, Work, Row, Left, Due}
 use Rattle.calls.specs.Outcomes.{part, piece_answer, row_answer, Outcome}
 use Rattle.calls.specs.History.{History, in_force, stale, raw}
-use Rattle.calls.specs.Runs.{Shows, PieceSays, RowSays, Says}
+use Rattle.calls.specs.Runs.{Shows, IsRightPiece, IsRightRow, IsRight}
 use Rattle.calls.proofs.Written.{plane_within, row_within}
 use Rattle.calls.proofs.Rightness.{finished_right}
 use Rattle.calls.proofs.Keeping.{Kept, opened, answer_is}
@@ -56,20 +56,20 @@ module _ {T R : Type 0} (K : Kind T R) (size : Size) (most : ℕ) (first : Pictu
           ∙ finished_right K size (raw K first h) at.memory (in_force h) (stale size h) kept.sound.raw kept.sound.right (x + i) y (in-card, on.down) (misses.none (x + i) (omega arith) (omega arith));
     }
 
-    piece_says : (q : Option ℕ) → FirstMet (last_area (stale size h)) x y n q → PieceSays K size most first h x y n (piece_answer K (part K (opened K size most first h at) x y n) q)
+    piece_says : (q : Option ℕ) → FirstMet (last_area (stale size h)) x y n q → IsRightPiece K size most first h x y n (piece_answer K (part K (opened K size most first h at) x y n) q)
     piece_says None misses = (misses, piece_right misses)
     piece_says (Some c) meets = meets
 
-  row_says : (x y n : ℕ) (o : Option Rect) → rect_on size x y n 1 ≡ o → RowSays K size most first h o x y n (row_answer K o (part K (opened K size most first h at) x y n) (met (last_area (stale size h)) x y n))
+  row_says : (x y n : ℕ) (o : Option Rect) → rect_on size x y n 1 ≡ o → IsRightRow K size most first h o x y n (row_answer K o (part K (opened K size most first h at) x y n) (met (last_area (stale size h)) x y n))
   row_says x y n None e = refl
   row_says x y n (Some r) e = piece_says x y n (piece_on size x y n r e) (met (last_area (stale size h)) x y n) (met_first (last_area (stale size h)) x y n)
 
-  pub says : (c : Call R) (a : Answer R) (to : State R) → Outcome K at c a to → Says K size most first h c a
+  pub says : (c : Call R) (a : Answer R) (to : State R) → Outcome K at c a to → IsRight K size most first h c a
   says (Patch x y w n tones) a to out = answer_is K size most first h at kept (Patch x y w n tones) a to out
   says (Install d) a to out = answer_is K size most first h at kept (Install d) a to out
   says (Work budget) a to out = answer_is K size most first h at kept (Work budget) a to out
   says (Row x y n) a to out =
-      subst (RowSays K size most first h (rect_on size x y n 1) x y n) (sym (answer_is K size most first h at kept (Row x y n) a to out))
+      subst (IsRightRow K size most first h (rect_on size x y n 1) x y n) (sym (answer_is K size most first h at kept (Row x y n) a to out))
       (row_says x y n (rect_on size x y n 1) refl)
   says Left a to out = answer_is K size most first h at kept Left a to out
   says Due a to out = answer_is K size most first h at kept Due a to out

@@ -17,7 +17,7 @@ use Rattle.calls.specs.Calls.{State, Answer}
 use Rattle.calls.specs.Calls.Call.{Row}
 use Rattle.calls.specs.Calls.Answer.{Done, Number, Piece, Next, Refused, Met}
 use Rattle.calls.specs.History.{History, in_force, stale, raw}
-use Rattle.calls.specs.Runs.{Run, Begun, only_work, Shows, PieceSays, RowSays}
+use Rattle.calls.specs.Runs.{Run, Begun, only_work, Shows, IsRightPiece, IsRightRow}
 use Rattle.calls.specs.Promise.{opening, raw_card, finished_card, FewerLeft, ComesClean, FinishesRight, FinishesWithCuts, FinishesInOrder, Promise, KeepsPromise}
 use Rattle.calls.proofs.Lessening.{rows_less, last_clean}
 use Rattle.calls.proofs.Rightness.{finished_clean}
@@ -31,7 +31,7 @@ no_meeting a x y n c e meets = subst (λ b. Stale b c y) e meets.stale_there
 
 module _ {T R : Type 0} (K : Kind T R) (size : Size) (most : ℕ) (first : Picture T) where
   -- a piece inside is handed out where the last stage has no area
-  piece_handed : (h : History R) (x y n : ℕ) → last_area (stale size h) ≡ None → (a : Answer R) → PieceSays K size most first h x y n a → (p : List R) × (a ≡ Piece p) × Shows K size most first h x y n p
+  piece_handed : (h : History R) (x y n : ℕ) → last_area (stale size h) ≡ None → (a : Answer R) → IsRightPiece K size most first h x y n a → (p : List R) × (a ≡ Piece p) × Shows K size most first h x y n p
   piece_handed h x y n none (Piece p) s = (p, refl, s.1)
   piece_handed h x y n none (Met c) s = absurd (no_meeting (last_area (stale size h)) x y n c none s)
   piece_handed h x y n none Done s = absurd s
@@ -39,7 +39,7 @@ module _ {T R : Type 0} (K : Kind T R) (size : Size) (most : ℕ) (first : Pictu
   piece_handed h x y n none (Next o) s = absurd s
   piece_handed h x y n none (Refused e) s = absurd s
 
-  row_handed : (h : History R) (x y n : ℕ) (o : Option Rect) → is_some o ≡ true → last_area (stale size h) ≡ None → (a : Answer R) → RowSays K size most first h o x y n a → (p : List R) × (a ≡ Piece p) × Shows K size most first h x y n p
+  row_handed : (h : History R) (x y n : ℕ) (o : Option Rect) → is_some o ≡ true → last_area (stale size h) ≡ None → (a : Answer R) → IsRightRow K size most first h o x y n a → (p : List R) × (a ≡ Piece p) × Shows K size most first h x y n p
   row_handed h x y n None some none a s = absurd (false≢true some)
   row_handed h x y n (Some r) some none a s = piece_handed h x y n none a s
 

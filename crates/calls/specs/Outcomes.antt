@@ -4,7 +4,7 @@ use Rattle.planes.specs.declared.size.Size.{Size}
 use Rattle.planes.specs.Sizes.{cell, start}
 use Rattle.recipes.specs.declared.draft.Draft.{Draft}
 use Rattle.recipes.specs.declared.recipe.Stage.{Stage}
-use Rattle.recipes.specs.Drafts.{steps_of}
+use Rattle.recipes.specs.Drafts.{steps_of, declared_by}
 use Rattle.recipes.specs.Recipes.{stages_of, amounts_within}
 use Rattle.areas.specs.declared.rect.Rect.{Rect}
 use Rattle.areas.specs.Rects.{rect_on}
@@ -35,7 +35,7 @@ patch_refused size x y width height count =
 -- has planes for (20), then where an amount is outside the span (21)
 abbrev pub install_refusal : ℕ → ℕ → Draft → Option ℕ
 install_refusal span most d =
-    if nat_lt (length (steps_of d)) d.declared then Some 19
+    if nat_lt (length (steps_of d)) (declared_by d) then Some 19
     else (if nat_lt most (length (drafted d)) then Some 20
     else (if amounts_within span (drafted d) then None else Some 21))
 

@@ -15,7 +15,7 @@ use Rattle.calls.specs.Calls.Answer.{Piece}
 use Rattle.calls.specs.Outcomes.{Outcome}
 use Rattle.calls.specs.History.{History, plane, in_force, stale, raw}
 use Rattle.calls.specs.History.Event.{Worked}
-use Rattle.calls.specs.Runs.{Run, Begun, only_work, budgets, Shows, Says}
+use Rattle.calls.specs.Runs.{Run, Begun, only_work, budgets, Shows, IsRight}
 
 -- the rows that are stale after a history
 abbrev pub rows_left : {R : Type 0} → Size → History R → ℕ
@@ -52,7 +52,7 @@ module _ {T R : Type 0} (K : Kind T R) (size : Size) where
     AnswersRight =
         (h : History R) (at : State R) → Run K st h at →
         (c : Call R) (a : Answer R) (to : State R) → Outcome K at c a to →
-        Says K size most (opening st) h c a
+        IsRight K size most (opening st) h c a
 
     -- a work leaves so many stale rows fewer as it redoes
     abbrev pub FewerLeft : Type 0

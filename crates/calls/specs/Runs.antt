@@ -59,24 +59,24 @@ module _ {T R : Type 0} (K : Kind T R) (size : Size) (most : ℕ)
 
   -- a piece inside is handed out where it misses the last stage's stale area, with the right tones; where it meets the
   -- area it is refused with the first column met
-  abbrev pub PieceSays : ℕ → ℕ → ℕ → Answer R → Type 0
-  PieceSays x y n (Piece p) = Misses (last_area (stale size h)) x y n × Shows x y n p
-  PieceSays x y n (Met c) = Meets (last_area (stale size h)) x y n c
-  PieceSays x y n Done = ⊥
-  PieceSays x y n (Number k) = ⊥
-  PieceSays x y n (Next o) = ⊥
-  PieceSays x y n (Refused e) = ⊥
+  abbrev pub IsRightPiece : ℕ → ℕ → ℕ → Answer R → Type 0
+  IsRightPiece x y n (Piece p) = Misses (last_area (stale size h)) x y n × Shows x y n p
+  IsRightPiece x y n (Met c) = Meets (last_area (stale size h)) x y n c
+  IsRightPiece x y n Done = ⊥
+  IsRightPiece x y n (Number k) = ⊥
+  IsRightPiece x y n (Next o) = ⊥
+  IsRightPiece x y n (Refused e) = ⊥
 
-  abbrev pub RowSays : Option Rect → ℕ → ℕ → ℕ → Answer R → Type 0
-  RowSays None x y n a = a ≡ Refused 17
-  RowSays (Some r) x y n a = PieceSays x y n a
+  abbrev pub IsRightRow : Option Rect → ℕ → ℕ → ℕ → Answer R → Type 0
+  IsRightRow None x y n a = a ≡ Refused 17
+  IsRightRow (Some r) x y n a = IsRightPiece x y n a
 
   -- what the rules say that a call answers
-  abbrev pub Says : Call R → Answer R → Type 0
-  Says (Patch x y width height tones) a =
+  abbrev pub IsRight : Call R → Answer R → Type 0
+  IsRight (Patch x y width height tones) a =
       a ≡ done_unless (patch_refused size x y width height (length tones))
-  Says (Install d) a = a ≡ done_unless (install_refusal K.span most d)
-  Says (Work budget) a = a ≡ Number (min budget (stale_rows (stale size h)))
-  Says (Row x y n) a = RowSays (rect_on size x y n 1) x y n a
-  Says Left a = a ≡ Number (stale_rows (stale size h))
-  Says Due a = a ≡ Next (next_of (stale size h))
+  IsRight (Install d) a = a ≡ done_unless (install_refusal K.span most d)
+  IsRight (Work budget) a = a ≡ Number (min budget (stale_rows (stale size h)))
+  IsRight (Row x y n) a = IsRightRow (rect_on size x y n 1) x y n a
+  IsRight Left a = a ≡ Number (stale_rows (stale size h))
+  IsRight Due a = a ≡ Next (next_of (stale size h))

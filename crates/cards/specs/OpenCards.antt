@@ -3,14 +3,14 @@ use Rattle.std.specs.Prelude.{ℕ, ◌+◌, ◌-◌, ◌≤◌, List, length}
 use Rattle.planes.specs.Sizes.{area, start}
 use Rattle.recipes.specs.Recipes.{staged}
 use Rattle.areas.specs.declared.rect.Rect.{Rect}
-use Rattle.areas.specs.Listed.{listed}
+use Rattle.areas.specs.Listed.{listed, frame_of}
 use Rattle.areas.specs.Rects.{Fits}
 use Rattle.calls.specs.Calls.{Notes, Open, room}
 use Rattle.cards.specs.declared.open_card.OpenCard.{OpenCard}
 
 abbrev pub notes_of : OpenCard → Notes
 notes_of s = record {
-  size = s.areas.frame.size;
+  size = (frame_of s.areas).size;
   most = s.most;
   recipe = staged s.recipe;
   areas = listed s.areas;
@@ -25,8 +25,8 @@ open_of s w m = record { notes = notes_of s; weights = w; memory = m }
 pub record Stands (s : OpenCard) (stage : ℕ) (rect : Rect) : Type 0 where
   pub from : 1 ≤ stage
   pub to : stage ≤ length (staged s.recipe)
-  pub fits : Fits s.areas.frame.size rect
+  pub fits : Fits (frame_of s.areas).size rect
   pub apart :
-      start s.areas.frame.size (stage - 1) + area s.areas.frame.size
-      ≤ start s.areas.frame.size stage
-  pub within : start s.areas.frame.size stage + area s.areas.frame.size ≤ room (notes_of s)
+      start (frame_of s.areas).size (stage - 1) + area (frame_of s.areas).size
+      ≤ start (frame_of s.areas).size stage
+  pub within : start (frame_of s.areas).size stage + area (frame_of s.areas).size ≤ room (notes_of s)

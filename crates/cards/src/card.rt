@@ -6,16 +6,19 @@ ghost use Rattle.calls.specs.Opening.{memory_of};
 ghost use Rattle.calls.specs.declared.refusals.Refusal.TheVariants.{Memory};
 ghost use Rattle.cards.specs.OpenCards.{notes_of};
 
+use crate::faults::LoadFault;
 use crate::open_card::OpenCard;
+use crate::residues::subtract;
 use areas::rect::Rect;
 use calls::refusals::Refusal;
+use pgm::file::read;
 use planes::frame::Frame;
 use planes::size::Size;
 use recipes::draft::Draft;
 use recipes::recipe::Stage;
 use selectors::Selector;
 use std::marker::PhantomData;
-use tones::Tone;
+use tones::{Grey, Tone};
 
 /// A card of tones T with a selector S. Once it has a size it is an open card; its tones lie in memory that each
 /// call is lent.
@@ -223,6 +226,53 @@ impl<T: Tone, S: Selector> Card<T, S> {
         ensures { result.now ≡ selector_of self.now }
     {
         &self.selector
+    }
+}
+
+impl<S: Selector> Card<Grey, S> {
+    ghost use Rattle.calls.specs.Calls.{done};
+    ghost use Rattle.calls.specs.Residue.{residue_after, residue_answer};
+    ghost use Rattle.cards.specs.Loading.{Loads};
+    ghost use Rattle.cards.specs.Meanings.{StaysInOrder, notes, selector_of, state_of};
+    ghost use Rattle.tones.specs.Greys.{greys};
+
+    /// Reads a raw PGM file and patches its tones at column x and row y. Refused with the file's fault (23)
+    /// before all else, then as the patch is.
+    pub fn load(
+        &mut self,
+        memory: &mut [u8],
+        x: usize,
+        y: usize,
+        file: &[u8],
+    ) -> Result<(), LoadFault>
+        ensures outcome { let from = state_of S.weight self.old memory.old in
+            Loads file.now from x y result (state_of S.weight self.new memory.new) }
+        ensures kept { OnErr result (self.new ≡ self.old) }
+        ensures selector { selector_of self.new ≡ selector_of self.old }
+        ensures in_order { StaysInOrder greys S.range S.ordered self.old self.new }
+    {
+        let picture = read(file)?;
+        self.patch(memory, x, y, picture.width, picture.height, picture.samples)?;
+        Ok(())
+    }
+
+    /// Writes raw minus finished into a relief for each pixel. Refused without a size (16), with memory of
+    /// another length (14), into a wrong count of reliefs (18), and with column 0 while any stage is stale (22).
+    pub fn residue(&self, memory: &[u8], reliefs: &mut [i16]) -> Result<(), Refusal>
+        ensures answer { done result
+            ≡ residue_answer (notes self.now) memory.now (length reliefs.old) }
+        ensures reliefs { reliefs.new ≡ residue_after (notes self.now) memory.now reliefs.old }
+    {
+        let opened = self.opened.as_ref().ok_or(Refusal::Unopened)?;
+        fits(opened, memory)?;
+        if reliefs.len() != opened.frame().area() {
+            return Err(Refusal::Count);
+        }
+        if opened.rows_left() > 0 {
+            return Err(Refusal::Stale(0));
+        }
+        subtract(memory, opened.finished(), reliefs);
+        Ok(())
     }
 }
 

@@ -5,11 +5,11 @@
 pub mod card;
 pub mod faults;
 mod laying;
-pub mod loading;
 mod open_card;
 pub mod refused;
-pub mod residues;
+mod residues;
 
+pub use calls::refusals::Refusal;
 pub use card::{Card, memory_len};
 pub use faults::LoadFault;
 pub use refused::AnyRefusal;

@@ -8,10 +8,10 @@ use Rattle.calls.specs.Opening.{open_refusal}
 use Rattle.calls.specs.Outcomes.{answer_open, drafted, install_refusal}
 use Rattle.calls.specs.Refusals.{refusal_number}
 use Rattle.calls.specs.Residue.{difference, residue_after, residue_answer}
-use Rattle.calls.specs.Runs.{Says}
+use Rattle.calls.specs.Runs.{IsRight}
 use Rattle.calls.specs.declared.refusals.Refusal.TheVariants.{Stale}
 use Rattle.planes.specs.declared.size.Size.{Size}
-use Rattle.recipes.specs.Drafts.{letter_of, steps_of}
+use Rattle.recipes.specs.Drafts.{letter_of, steps_of, declared_by}
 use Rattle.recipes.specs.Edits.{order_refusal}
 use Rattle.recipes.specs.Recipes.{Finished, staged}
 use Rattle.recipes.specs.Refusals.{draft_number}
@@ -185,18 +185,18 @@ history d n t = noted (corner t) Done (noted (Work 9) (Number n) (noted (Install
 
 -- what the rules say after it, with E of the cross: the same as the card answers
 pub record OneStageRules (d : Draft) (t : ℕ) : Type 0 where
-  pub left : Says greys three 1 card (history d 3 t) Left (Number 2)
-  pub due : Says greys three 1 card (history d 3 t) Due (Next (Some (1, 0)))
-  pub stale_pixel : Says greys three 1 card (history d 3 t) (Row 0 0 1) (Met 0)
-  pub fresh_pixel : Says greys three 1 card (history d 3 t) (Row 2 0 1) (Piece (30 ∷ []))
+  pub left : IsRight greys three 1 card (history d 3 t) Left (Number 2)
+  pub due : IsRight greys three 1 card (history d 3 t) Due (Next (Some (1, 0)))
+  pub stale_pixel : IsRight greys three 1 card (history d 3 t) (Row 0 0 1) (Met 0)
+  pub fresh_pixel : IsRight greys three 1 card (history d 3 t) (Row 2 0 1) (Piece (30 ∷ []))
 
 -- and with O of the cross
 pub record TwoStageRules (d : Draft) (t : ℕ) : Type 0 where
-  pub left : Says greys three 2 card (history d 6 t) Left (Number 5)
-  pub idle : Says greys three 2 card (history d 6 t) (Work 0) (Number 0)
-  pub enough : Says greys three 2 card (history d 6 t) (Work 9) (Number 5)
+  pub left : IsRight greys three 2 card (history d 6 t) Left (Number 5)
+  pub idle : IsRight greys three 2 card (history d 6 t) (Work 0) (Number 0)
+  pub enough : IsRight greys three 2 card (history d 6 t) (Work 9) (Number 5)
   pub none_left :
-      Says greys three 2 card (noted (Work 9) (Number 5) (history d 6 t)) Left (Number 0)
+      IsRight greys three 2 card (noted (Work 9) (Number 5) (history d 6 t)) Left (Number 0)
 
 -- a draft is refused with 19, by its finish, which gives nothing else, and by every card of greys
 pub record IsTooShort (d : Draft) : Type 0 where
@@ -229,11 +229,11 @@ pub record DraftExamples : Type 0 where
   pub closing : letter_of 67 ≡ Some letter.Closing
   pub unknown : letter_of 88 ≡ None
   -- two steps declared, and one there
-  pub one_of_two : (d : Draft) → d.declared ≡ 2 → length (steps_of d) ≡ 1 → IsTooShort d
+  pub one_of_two : (d : Draft) → declared_by d ≡ 2 → length (steps_of d) ≡ 1 → IsTooShort d
   -- five steps declared, whatever steps are there
-  pub five : (d : Draft) → d.declared ≡ 5 → IsTooShort d
+  pub five : (d : Draft) → declared_by d ≡ 5 → IsTooShort d
   -- none declared
-  pub none : (d : Draft) → d.declared ≡ 0 → NoSteps d
+  pub none : (d : Draft) → declared_by d ≡ 0 → NoSteps d
 
 -- a card of one pixel with D of the amount 5 at the origin, whatever its selector holds
 pub record ResidueExamples (d : Draft) (w : ℕ → ℕ) : Type 0 where

@@ -7,8 +7,8 @@ use Rattle.calls.specs.Opening.{fresh}
 use Rattle.calls.specs.Outcomes.{after_by, answer_by, drafted}
 use Rattle.planes.specs.Sizes.{area}
 use Rattle.planes.specs.declared.size.Size.{Size}
-use Rattle.recipes.specs.Drafts.{letter_of, steps_of}
-use Rattle.recipes.specs.Placed.{placed}
+use Rattle.recipes.specs.Drafts.{letter_of, steps_of, declared_by}
+use Rattle.recipes.specs.Placed.{placed, order_of}
 use Rattle.recipes.specs.Places.{origin}
 use Rattle.recipes.specs.Shapes.{standard_places}
 use Rattle.recipes.specs.declared.draft.Draft.{Draft}
@@ -29,9 +29,9 @@ pub record IsOneStep (c : ℕ) (ps : List Place) (k : ℕ) (d : Draft) : Type 0 
   pub known : letter_of c ≡ Some letter
   pub element : Element
   pub places : placed element ≡ ps
-  pub order : element.order ≡ k
+  pub order : order_of element ≡ k
   pub steps : steps_of d ≡ record { letter = letter; element = element } ∷ []
-  pub declared : d.declared ≡ 1
+  pub declared : declared_by d ≡ 1
 
 -- a soft place
 abbrev pub soft_with : ℤ → ℤ → ℤ → Place

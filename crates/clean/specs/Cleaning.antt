@@ -8,7 +8,7 @@ use Rattle.cards.specs.Meanings.{InOrder, state_of}
 use Rattle.cards.specs.declared.card.Card.{Card}
 use Rattle.filters.specs.Restaging.{lines}
 use Rattle.planes.specs.declared.size.Size.{Size}
-use Rattle.recipes.specs.Placed.{placed}
+use Rattle.recipes.specs.Placed.{placed, order_of}
 use Rattle.recipes.specs.Recipes.{eroding}
 use Rattle.recipes.specs.Shapes.{standard_places}
 use Rattle.recipes.specs.declared.element.Element.{Element}
@@ -29,7 +29,7 @@ Shades = Picture Grey
 -- the element is the cross of order 2
 pub record CrossOfOrder2 (e : Element) : Type 0 where
   pub places : placed e ≡ standard_places Cross
-  pub order : e.order ≡ 2
+  pub order : order_of e ≡ 2
 
 -- the picture of some samples
 abbrev pub pictured : Size → List ℕ → Shades

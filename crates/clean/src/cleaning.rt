@@ -6,7 +6,7 @@ ghost use Rattle.clean.specs.Cleaning.{CrossOfOrder2, Eroded, HandsOut, Ready, S
 ghost use Rattle.filters.specs.Restaging.{lines};
 ghost use Rattle.pgm.specs.Reading.{Reads, reading};
 ghost use Rattle.planes.specs.Sizes.{Limits};
-ghost use Rattle.recipes.specs.Drafts.{steps_of};
+ghost use Rattle.recipes.specs.Drafts.{steps_of, declared_by};
 ghost use Rattle.recipes.specs.declared.draft.Letter.TheVariants.{Erosion};
 ghost use Rattle.tones.specs.Greys.{greys};
 
@@ -66,7 +66,7 @@ fn cross() -> Element
 /// The draft of an erosion.
 fn erosion(element: &Element) -> Draft
     ensures steps { steps_of result ≡ record { letter = Erosion; element = element.now } ∷ [] }
-    ensures declared { result.declared ≡ 1 }
+    ensures declared { declared_by result ≡ 1 }
 {
     let mut draft = Draft::begin(1);
     draft.step('E', element).unwrap();

@@ -1,6 +1,6 @@
 -- The laws of soft morphology that speak of a stage or of any list of stages, for every kind of
 -- tones. Assumes nothing.
-use Rattle.std.specs.Prelude.{◌≡◌, ℕ, suc, ◌-◌, ◌<◌, ◌≤◌, true, cond, ◌↔◌, List, [], replicate, ℤ, ◌+ℤ◌, ◌-ℤ◌, nat_le}
+use Rattle.std.specs.Prelude.{◌≡◌, ℕ, suc, ◌-◌, ◌<◌, ◌≤◌, true, if◌then◌else◌, ◌↔◌, List, [], replicate, ℤ, ◌+ℤ◌, ◌-ℤ◌, nat_le}
 use Rattle.std.specs.List.{ContainsAt as Has, flat_map}
 use Rattle.planes.specs.declared.size.Size.{Size}
 use Rattle.recipes.specs.declared.element.Element.{Element}
@@ -9,7 +9,7 @@ use Rattle.recipes.specs.declared.recipe.Operation.{Operation}
 use Rattle.recipes.specs.declared.recipe.Operation.TheVariants.{Erosion, Dilation}
 use Rattle.recipes.specs.declared.recipe.Stage.{Stage}
 use Rattle.recipes.specs.Extents.{Within, across, down}
-use Rattle.recipes.specs.Placed.{placed}
+use Rattle.recipes.specs.Placed.{placed, order_of}
 use Rattle.recipes.specs.Recipes.{places_within, amounts_within, eroding, dilating}
 use Rattle.selectors.specs.Bag.{Ranked}
 use Rattle.stages.specs.Stages.{Picture, weight, inside, read, bag, total, rank, cleaned, made}
@@ -36,9 +36,7 @@ module _ {T R : Type 0} (K : Kind T R) (size : Size) (s : Stage) (f : Picture T)
   -- nothing outside the card
   abbrev pub gives : (Place → ℤ) → Place → List ℤ
   gives number p =
-      cond (inside K size s f x y p)
-      (replicate (weight s.element.order p) (number p))
-      []
+      if inside K size s f x y p then replicate (weight (order_of s.element) p) (number p) else []
 
   -- where tones have numbers
   module _ (value : T → ℤ) where
@@ -95,7 +93,7 @@ module _ {T R : Type 0} (K : Kind T R) where
       → On size x y
       → places_within K.span (placed s.element) ≡ true
       → (z : ℤ)
-      × Kth s.operation s.element.order (differences K size s f x y value) z
+      × Kth s.operation (order_of s.element) (differences K size s f x y value) z
       × (value (cleaned K size s f x y) ≡ nearest low high z)
 
   -- where no amount lowers or raises, the tone is one of those that the window reads
@@ -150,13 +148,13 @@ module _ (size : Size) (f : Picture Mark) (x y : ℕ) where
   abbrev pub ErodesByCount : Element → Type 0
   ErodesByCount e =
       let s = eroding e in
-      MakesYes s ↔ (suc (all_weight s - e.order) ≤ yes_weight s)
+      MakesYes s ↔ (suc (all_weight s - (order_of e)) ≤ yes_weight s)
 
   -- it is dilated to yes exactly where they weigh at least k
   abbrev pub DilatesByCount : Element → Type 0
   DilatesByCount e =
       let s = dilating e in
-      MakesYes s ↔ (e.order ≤ yes_weight s)
+      MakesYes s ↔ (order_of e ≤ yes_weight s)
 
 -- marks are eroded and dilated by counting
 abbrev pub MarksCount : Type 0

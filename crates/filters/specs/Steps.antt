@@ -6,7 +6,7 @@ use Rattle.recipes.specs.declared.draft.Letter.{Letter}
 use Rattle.recipes.specs.declared.draft.Letter.TheVariants as letter
 use Rattle.recipes.specs.declared.draft.Step.{Step}
 use Rattle.recipes.specs.declared.element.Element.{Element}
-use Rattle.recipes.specs.Placed.{placed}
+use Rattle.recipes.specs.Placed.{placed, order_of}
 use Rattle.recipes.specs.Recipes.{places_within, eroding, dilating, stages_by, stages_of}
 use Rattle.stages.specs.Stages.{Picture, made}
 use Rattle.tones.specs.Kind.{Kind, nearest}
@@ -38,13 +38,13 @@ module _ {T R : Type 0} (K : Kind T R) (value : T → ℤ) (size : Size) (e : El
   abbrev pub IsFlatErosion : Picture T → Picture T → Type 0
   IsFlatErosion f g =
       (x y : ℕ) → On size x y
-      → KthSmallest e.order (numbers K size (eroding e) f x y value) (value (g x y))
+      → KthSmallest (order_of e) (numbers K size (eroding e) f x y value) (value (g x y))
 
   -- the dilation by a flat element: at every pixel the k-th largest of the numbers f(p − y)
   abbrev pub IsFlatDilation : Picture T → Picture T → Type 0
   IsFlatDilation f g =
       (x y : ℕ) → On size x y
-      → KthLargest e.order (numbers K size (dilating e) f x y value) (value (g x y))
+      → KthLargest (order_of e) (numbers K size (dilating e) f x y value) (value (g x y))
 
   module _ (low high : ℤ) where
     -- the erosion: at every pixel the k-th smallest of the differences f(p + y) − a(y), held to
@@ -53,7 +53,7 @@ module _ {T R : Type 0} (K : Kind T R) (value : T → ℤ) (size : Size) (e : El
     IsErosion f g =
         (x y : ℕ) → On size x y
         → (z : ℤ)
-        × KthSmallest e.order (differences K size (eroding e) f x y value) z
+        × KthSmallest (order_of e) (differences K size (eroding e) f x y value) z
         × (value (g x y) ≡ nearest low high z)
 
     -- the dilation: at every pixel the k-th largest of the sums f(p − y) + a(y), held to low..high
@@ -61,7 +61,7 @@ module _ {T R : Type 0} (K : Kind T R) (value : T → ℤ) (size : Size) (e : El
     IsDilation f g =
         (x y : ℕ) → On size x y
         → (z : ℤ)
-        × KthLargest e.order (differences K size (dilating e) f x y value) z
+        × KthLargest (order_of e) (differences K size (dilating e) f x y value) z
         × (value (g x y) ≡ nearest low high z)
 
     -- what a step makes by its letter

@@ -1,5 +1,5 @@
 -- How the header machine goes: between the code and the grammar. No public promise names it.
-use Rattle.std.specs.Prelude.{◌≡◌, ℕ, suc, ◌+◌, ◌-◌, ◌*◌, ◌<◌, ◌≤◌, min, Bool, true, false, cond, ◌&&◌, ◌⊎◌, List, [], ◌∷◌, length, drop, Some, None, Ok, Err, Option, Result, ◌==◌, nat_le, slice_index}
+use Rattle.std.specs.Prelude.{◌≡◌, ℕ, suc, ◌+◌, ◌-◌, ◌*◌, ◌<◌, ◌≤◌, min, Bool, true, false, if◌then◌else◌, ◌&&◌, ◌⊎◌, List, [], ◌∷◌, length, drop, Some, None, Ok, Err, Option, Result, ◌==◌, nat_le, slice_index}
 use Rattle.std.specs.Borrow.{Bor}
 use Rattle.pgm.specs.Classes.{class_of}
 use Rattle.pgm.specs.Grammar.{limit}
@@ -54,9 +54,9 @@ is_five Other = false
 -- after a byte of the mark
 abbrev pub marked : ℕ → Class → State
 marked at c =
-    cond (at == 0) (cond (is_letter c) Mark (Refused (MarkFault 0)))
-    (cond (at == 1) (cond (is_five c) Mark (Refused (MarkFault 1)))
-    (cond (white_class c) (Gap Nothing) (Refused (Byte at))))
+    if at == 0 then (if is_letter c then Mark else Refused (MarkFault 0))
+    else (if at == 1 then (if is_five c then Mark else Refused (MarkFault 1))
+    else (if white_class c then Gap Nothing else Refused (Byte at)))
 
 -- after a number within its limits and one white byte
 abbrev pub moved_on : Known → ℕ → ℕ → State
@@ -70,9 +70,9 @@ within_limits k v = nat_le 1 v && nat_le v (limit k)
 -- after a number and a byte that is no digit
 abbrev pub closed : Known → ℕ → ℕ → ℕ → Bool → State
 closed k first v at white =
-    cond (within_limits k v)
-    (cond white (moved_on k v at) (Refused (Byte at)))
-    (Refused (NumberFault first))
+    if within_limits k v
+    then (if white then moved_on k v at else Refused (Byte at))
+    else Refused (NumberFault first)
 
 abbrev pub gapped : Known → ℕ → Class → State
 gapped k at Line = Gap k
@@ -129,7 +129,8 @@ final (Refused f) = true
 abbrev pub closing : ℕ → State → Result Header HeaderFault
 closing n Mark = Err (Early n)
 closing n (Gap k) = Err (Early n)
-closing n (Number m) = Err (cond (within_limits m.known m.value) (Early n) (NumberFault m.first))
+closing n (Number m) =
+    Err (if within_limits m.known m.value then Early n else NumberFault m.first)
 closing n (Comment k) = Err (Early n)
 closing n (Raster h) = Ok h
 closing n (Refused f) = Err f

@@ -3,8 +3,8 @@ use Rattle.std.specs.Prelude.{ℕ}
 use Rattle.selectors.specs.contracts.gate.GateSelector.TheImpl as gate
 use Rattle.selectors.specs.contracts.histogram.HistogramSelector.TheImpl as histogram
 use Rattle.selectors.specs.contracts.ladder.LadderSelector.TheImpl as ladder
-use Rattle.selectors.specs.declared.calls.Kind.{Kind}
-use Rattle.selectors.specs.declared.calls.Kind.TheVariants.{Gate, Histogram, Ladder}
+use Rattle.selectors.specs.declared.calls.SelectorKind.{SelectorKind}
+use Rattle.selectors.specs.declared.calls.SelectorKind.TheVariants.{Gate, Histogram, Ladder}
 use Rattle.selectors.specs.declared.histogram.TheConstants.{RANGE}
 use Rattle.selectors.specs.declared.limits.TheConstants.{WIDE_RANGE}
 use Rattle.rank.specs.declared.chosen.Chosen.{Chosen}
@@ -23,7 +23,7 @@ chosen_range (OfHistogram s) = (histogram.ghosts).range s
 chosen_range (OfLadder s) = (ladder.ghosts).range s
 
 -- the range of each kind
-abbrev pub kind_range : Kind → ℕ
+abbrev pub kind_range : SelectorKind → ℕ
 kind_range Gate = WIDE_RANGE
 kind_range Histogram = RANGE
 kind_range Ladder = WIDE_RANGE

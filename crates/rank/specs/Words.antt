@@ -1,7 +1,7 @@
 -- What the words of a line say. Assumes nothing.
 use Rattle.std.specs.Prelude.{◌≡◌, ℕ, ◌^◌, ◌<◌, List, Some, None, codes, Option}
 use Rattle.std.specs.Str.Parse.{IsNumeral, digits_value, without_leading_plus}
-use Rattle.selectors.specs.declared.calls.Call.TheVariants.{Put, Total, Select, Empty}
+use Rattle.selectors.specs.declared.calls.SelectorCall.TheVariants.{Put, Total, Select, Empty}
 use Rattle.selectors.specs.Played.{name_of}
 use Rattle.rank.specs.declared.command.Command.{Command}
 use Rattle.rank.specs.declared.command.Command.TheVariants.{Choose, Ask}

@@ -1,9 +1,9 @@
 //! The selector that a script has chosen.
 ghost use Rattle.std.specs.Prelude.{◌≡◌, ℕ, OnErr};
 ghost use Rattle.rank.specs.Choice.{chosen_range, chosen_weight, kind_range};
-ghost use Rattle.selectors.specs.Played.{Answered, after};
+ghost use Rattle.selectors.specs.Played.{Answered, bag_after};
 
-use selectors::{Call, CallRefusal, Gate, Histogram, Kind, Ladder, Reply, play};
+use selectors::{CallRefusal, Gate, Histogram, Ladder, Reply, SelectorCall, SelectorKind, play};
 
 /// A selector of one of the three kinds.
 #[derive(Clone, Copy)]
@@ -15,22 +15,22 @@ pub enum Chosen {
 
 impl Chosen {
     /// A new selector of this kind, in which every weight is 0.
-    pub fn new(kind: Kind) -> Chosen
+    pub fn new(kind: SelectorKind) -> Chosen
         ensures weights { (c : ℕ) → chosen_weight result c ≡ 0 }
         ensures range { chosen_range result ≡ kind_range kind }
     {
         match kind {
-            Kind::Gate => Chosen::OfGate(Gate::new()),
-            Kind::Histogram => Chosen::OfHistogram(Histogram::new()),
-            Kind::Ladder => Chosen::OfLadder(Ladder::new()),
+            SelectorKind::Gate => Chosen::OfGate(Gate::new()),
+            SelectorKind::Histogram => Chosen::OfHistogram(Histogram::new()),
+            SelectorKind::Ladder => Chosen::OfLadder(Ladder::new()),
         }
     }
 
     /// Makes the call on it.
-    pub fn play(&mut self, call: Call) -> Result<Reply, CallRefusal>
+    pub fn play(&mut self, call: SelectorCall) -> Result<Reply, CallRefusal>
         ensures answer { Answered (chosen_weight self.old) (chosen_range self.old) call result }
         ensures weights { (c : ℕ) → chosen_weight self.new c
-            ≡ after (chosen_weight self.old) (chosen_range self.old) call c }
+            ≡ bag_after (chosen_weight self.old) (chosen_range self.old) call c }
         ensures kept { OnErr result (self.new ≡ self.old) }
         ensures range_kept { chosen_range self.new ≡ chosen_range self.old }
     {

@@ -1,9 +1,9 @@
 //! What a line of a script asks for.
-use selectors::{Call, Kind};
+use selectors::{SelectorCall, SelectorKind};
 
 /// One line of a script.
 #[derive(Clone, Copy)]
 pub enum Command {
-    Choose(Kind),
-    Ask(Call),
+    Choose(SelectorKind),
+    Ask(SelectorCall),
 }

@@ -10,7 +10,7 @@ mod read;
 use answer::Answer;
 use chosen::Chosen;
 use command::Command;
-use selectors::{Kind, Reply};
+use selectors::{Reply, SelectorKind};
 use std::io::{BufRead, BufReader};
 use std::process::ExitCode;
 use std::{env, io};
@@ -34,7 +34,7 @@ a line that cannot be read prints `unknown` and its number.
 fn play(rt: &HostRuntime) -> io::Result<()> {
     let mut input = BufReader::new(rt.alloc(), rt.stdin())?;
     let mut line = Vec::new(rt.alloc());
-    let mut chosen = Chosen::new(Kind::Gate);
+    let mut chosen = Chosen::new(SelectorKind::Gate);
     // Counted by hand: both figures are printed after the loop, where an `enumerate` tells neither.
     let mut lines = 0u64;
     let mut played = 0u64;

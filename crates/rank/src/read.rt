@@ -4,7 +4,7 @@ ghost use Rattle.std.specs.Option.{option_map};
 ghost use Rattle.rank.specs.Words.{Reads, Writes};
 
 use crate::command::Command;
-use selectors::Call;
+use selectors::SelectorCall;
 
 /// The command of a line of at most three words.
 pub fn command(line: &str) -> Option<Command> {
@@ -27,11 +27,11 @@ pub fn said(name: &str, first: Option<&str>, second: Option<&str>) -> Option<Com
     match (name, first, second) {
         ("selector", Some(kind), None) => Some(Command::Choose(kind.parse().ok()?)),
         ("put", Some(code), Some(weight)) => {
-            Some(Command::Ask(Call::Put(number(code)?, number(weight)?)))
+            Some(Command::Ask(SelectorCall::Put(number(code)?, number(weight)?)))
         }
-        ("total", None, None) => Some(Command::Ask(Call::Total)),
-        ("select", Some(rank), None) => Some(Command::Ask(Call::Select(number(rank)?))),
-        ("empty", None, None) => Some(Command::Ask(Call::Empty)),
+        ("total", None, None) => Some(Command::Ask(SelectorCall::Total)),
+        ("select", Some(rank), None) => Some(Command::Ask(SelectorCall::Select(number(rank)?))),
+        ("empty", None, None) => Some(Command::Ask(SelectorCall::Empty)),
         _ => None,
     }
 }

@@ -11,6 +11,10 @@ use Rattle.recipes.specs.declared.element.Element.{Element}
 abbrev pub steps_of : Draft → List Step
 steps_of d = take d.count d.steps
 
+-- the number of steps that a draft declares
+abbrev pub declared_by : Draft → ℕ
+declared_by d = d.declared
+
 -- the letters: E is 69, D is 68, O is 79, C is 67, and there are no others
 abbrev pub letter_of : ℕ → Option Letter
 letter_of c =

@@ -12,7 +12,7 @@ use Rattle.recipes.specs.declared.recipe.Operation.TheVariants.{Erosion, Dilatio
 use Rattle.recipes.specs.declared.recipe.Recipe.{Recipe}
 use Rattle.recipes.specs.declared.recipe.Stage.{Stage}
 use Rattle.recipes.specs.declared.refusals.DraftRefusal.{DraftRefusal}
-use Rattle.recipes.specs.Drafts.{steps_of}
+use Rattle.recipes.specs.Drafts.{steps_of, declared_by}
 use Rattle.std.specs.List.{list_all}
 use Rattle.recipes.specs.Placed.{placed}
 use Rattle.recipes.specs.Refusals.{draft_number}
@@ -52,8 +52,8 @@ stages_of ss = flat_map stages_of_step ss
 
 -- a draft makes the recipe of its steps, or is refused where it has fewer than declared (19)
 abbrev pub Finished : Draft → Result Recipe DraftRefusal → Type 0
-Finished d (Ok r) = (d.declared ≤ length (steps_of d)) × (staged r ≡ stages_of (steps_of d))
-Finished d (Err e) = (length (steps_of d) < d.declared) × (draft_number e ≡ 19)
+Finished d (Ok r) = (declared_by d ≤ length (steps_of d)) × (staged r ≡ stages_of (steps_of d))
+Finished d (Err e) = (length (steps_of d) < (declared_by d)) × (draft_number e ≡ 19)
 
 -- every amount of some places is from −span to span
 abbrev pub places_within : ℕ → List Place → Bool

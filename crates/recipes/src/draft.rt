@@ -62,7 +62,7 @@ pub struct Draft {
 }
 
 impl Draft {
-    ghost use Rattle.recipes.specs.Drafts.{letter_of, step_after, step_refusal, steps_of};
+    ghost use Rattle.recipes.specs.Drafts.{letter_of, step_after, step_refusal, steps_of, declared_by};
     ghost use Rattle.recipes.specs.Recipes.{Finished};
     ghost use Rattle.recipes.specs.Refusals.{draft_number, refused_with};
     ghost use Rattle.std.specs.Prelude.{[], Some, OnErr};
@@ -70,7 +70,7 @@ impl Draft {
     /// A draft without steps that declares n of them.
     pub fn begin(n: u64) -> Draft
         ensures steps { steps_of result ≡ [] }
-        ensures declared { result.declared ≡ n }
+        ensures declared { declared_by result ≡ n }
     {
         Draft {
             steps: [Step {
@@ -86,10 +86,10 @@ impl Draft {
     /// declared (12).
     pub fn step(&mut self, letter: char, element: &Element) -> Result<(), DraftRefusal>
         ensures answer { refused_with draft_number result
-            ≡ step_refusal (letter_of letter) (steps_of self.old) self.old.declared }
+            ≡ step_refusal (letter_of letter) (steps_of self.old) (declared_by self.old) }
         ensures steps { steps_of self.new
-            ≡ step_after (letter_of letter) element.now (steps_of self.old) self.old.declared }
-        ensures declared { self.new.declared ≡ self.old.declared }
+            ≡ step_after (letter_of letter) element.now (steps_of self.old) (declared_by self.old) }
+        ensures declared { declared_by self.new ≡ declared_by self.old }
         ensures kept { OnErr result (self.new ≡ self.old) }
     {
         // Four characters, in which case counts: `o` is no letter.
@@ -115,10 +115,10 @@ impl Draft {
     /// Adds a step of a known letter.
     fn push(&mut self, letter: Letter, element: &Element) -> Result<(), DraftRefusal>
         ensures answer { refused_with draft_number result
-            ≡ step_refusal (Some letter) (steps_of self.old) self.old.declared }
+            ≡ step_refusal (Some letter) (steps_of self.old) (declared_by self.old) }
         ensures steps { steps_of self.new
-            ≡ step_after (Some letter) element.now (steps_of self.old) self.old.declared }
-        ensures declared { self.new.declared ≡ self.old.declared }
+            ≡ step_after (Some letter) element.now (steps_of self.old) (declared_by self.old) }
+        ensures declared { declared_by self.new ≡ declared_by self.old }
         ensures kept { OnErr result (self.new ≡ self.old) }
     {
         if self.count == MOST_STEPS || self.count as u64 == self.declared {

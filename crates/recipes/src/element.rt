@@ -27,11 +27,11 @@ pub struct Element {
 }
 
 impl Default for Element {
-    ghost use Rattle.recipes.specs.Placed.{placed};
+    ghost use Rattle.recipes.specs.Placed.{placed, order_of};
     ghost use Rattle.recipes.specs.Places.{origin};
     ghost use Rattle.std.specs.Prelude.{[], ◌∷◌};
 
-    ghost is_default = { λ e. (placed e ≡ origin ∷ []) × (e.order ≡ 1) };
+    ghost is_default = { λ e. (placed e ≡ origin ∷ []) × (order_of e ≡ 1) };
 
     /// The origin alone, as `new` makes it.
     fn default() -> Element {
@@ -56,7 +56,7 @@ impl Element {
     /// The origin alone, with amount 0 and order 1.
     pub fn new() -> Element
         ensures places { placed result ≡ origin ∷ [] }
-        ensures order { result.order ≡ 1 }
+        ensures order { order_of result ≡ 1 }
     {
         Element {
             places: [Place::ORIGIN; MOST_PLACES],
@@ -71,7 +71,7 @@ impl Element {
         ensures answer { refused_with element_number result ≡ standard_refusal (shape_of i) }
         ensures places { placed self.new ≡ standard_after (shape_of i) (placed self.old) }
         ensures members { (s : Shape) → shape_of i ≡ Some s → Members s (placed self.new) }
-        ensures order { self.new.order ≡ (if is_ok result then 1 else self.old.order) }
+        ensures order { order_of self.new ≡ (if is_ok result then 1 else order_of self.old) }
         ensures kept { OnErr result (self.new ≡ self.old) }
     {
         *self = Shape::try_from(i)?.element();
@@ -86,7 +86,7 @@ impl Element {
             ≡ (if is_ok result
             then placed self.old ++ place_of dx dy part amount ∷ []
             else placed self.old) }
-        ensures order { self.new.order ≡ self.old.order }
+        ensures order { order_of self.new ≡ order_of self.old }
         ensures kept { OnErr result (self.new ≡ self.old) }
     {
         if !in_limits(dx, dy, amount) {
@@ -112,7 +112,7 @@ impl Element {
             ≡ (if is_ok result
             then map (amended dx dy amount) (placed self.old)
             else placed self.old) }
-        ensures order { self.new.order ≡ self.old.order }
+        ensures order { order_of self.new ≡ order_of self.old }
         ensures kept { OnErr result (self.new ≡ self.old) }
     {
         if !in_limits(dx, dy, amount) {
@@ -127,7 +127,7 @@ impl Element {
     pub fn order(&mut self, k: u32) -> Result<(), ElementRefusal>
         ensures answer { refused_with element_number result ≡ order_refusal (placed self.old) k }
         ensures places { placed self.new ≡ placed self.old }
-        ensures order { self.new.order ≡ (if is_ok result then k else self.old.order) }
+        ensures order { order_of self.new ≡ (if is_ok result then k else order_of self.old) }
         ensures kept { OnErr result (self.new ≡ self.old) }
     {
         if !self.lawful_order(k) {
@@ -149,7 +149,7 @@ impl Element {
 
     /// The order index.
     pub fn order_index(&self) -> u32
-        ensures order { result ≡ self.now.order }
+        ensures order { result ≡ order_of self.now }
     {
         self.order
     }
@@ -182,7 +182,7 @@ impl Element {
         requires limits { limited place ≡ true }
         requires free { taken place.dx place.dy (placed self.old) ≡ false }
         ensures places { placed self.new ≡ placed self.old ++ place ∷ [] }
-        ensures order { self.new.order ≡ self.old.order }
+        ensures order { order_of self.new ≡ order_of self.old }
     {
         self.places[self.count] = place;
         self.count += 1;

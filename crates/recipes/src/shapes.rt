@@ -1,6 +1,6 @@
 //! The four standard shapes.
 
-ghost use Rattle.recipes.specs.Placed.{placed};
+ghost use Rattle.recipes.specs.Placed.{placed, order_of};
 ghost use Rattle.recipes.specs.Shapes.{in_shape, standard_place, standard_places};
 ghost use Rattle.std.specs.Prelude.{◌≡◌, ◌/◌, ◌%◌, pos, ◌-ℤ◌};
 
@@ -44,7 +44,7 @@ impl Shape {
     /// The element of the shape: its places row by row, with amounts 0, and order 1.
     pub(crate) fn element(self) -> Element
         ensures places { placed result ≡ standard_places self }
-        ensures order { result.order ≡ 1 }
+        ensures order { order_of result ≡ 1 }
     {
         // Not by the element's `push`: there is no element before the origin is met.
         let mut places = [Place::ORIGIN; MOST_PLACES];

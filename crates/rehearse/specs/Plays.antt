@@ -13,7 +13,7 @@ use Rattle.calls.specs.Opening.{fresh, open_refusal}
 use Rattle.calls.specs.Outcomes.{Outcome, done_unless, kept_if}
 use Rattle.calls.specs.declared.refusals.Refusal.{Refusal}
 use Rattle.selectors.specs.Played.{Answered}
-use Rattle.selectors.specs.declared.calls.Call.{Call as SelectorCall}
+use Rattle.selectors.specs.declared.calls.SelectorCall.{SelectorCall}
 use Rattle.selectors.specs.declared.calls.CallRefusal.{CallRefusal}
 use Rattle.selectors.specs.declared.calls.Reply.{Reply}
 use Rattle.scripts.specs.Answers.{answer_of_call, answer_of_selector, answer_of_work}

@@ -2,8 +2,8 @@
 use Rattle.std.specs.Prelude.{◌≡◌, ◌≢◌, ◌⊎◌, ℕ, List, [], ◌∷◌, false, true, Err, Result}
 use Rattle.std.specs.Borrow.{Bor}
 use Rattle.tones.specs.Kind.{Kind}
-use Rattle.recipes.specs.Placed.{placed}
-use Rattle.selectors.specs.Played.{after}
+use Rattle.recipes.specs.Placed.{placed, order_of}
+use Rattle.selectors.specs.Played.{bag_after}
 use Rattle.scripts.specs.Workspaces.{Drafted, Edited, edit_order, edit_places}
 use Rattle.scripts.specs.Lines.{Says}
 use Rattle.scripts.specs.Words.{Rest}
@@ -38,14 +38,14 @@ module _ {T R S : Type 0} (K : Kind T R) (W : Scripted R) (Zero : R → Type 0)
   Commanded p d (Choose c) r q e = ⊥
   Commanded p d (OnElement edit) r q e = (q ≡ p) × Edited (placed d.element) edit r
       × (placed e.element ≡ edit_places (placed d.element) edit)
-      × (e.element.order ≡ edit_order (placed d.element) d.element.order edit)
+      × (order_of e.element ≡ edit_order (placed d.element) (order_of d.element) edit)
       × (e.draft ≡ d.draft)
   Commanded p d (OnDraft drafting) r q e = (q ≡ p)
       × Drafted d.draft d.element drafting e.draft r × (e.element ≡ d.element)
   Commanded p d (OnSelector call) r q e = (e ≡ d)
       × (q.card ≡ p.card) × (q.memory ≡ p.memory) × (q.area ≡ p.area)
       × Ranks (weight p.own) (range p.own) call r
-      × ((c : ℕ) → weight q.own c ≡ after (weight p.own) (range p.own) call c)
+      × ((c : ℕ) → weight q.own c ≡ bag_after (weight p.own) (range p.own) call c)
   Commanded p d (OnCard call) r q e = (q.own ≡ p.own)
       × (e.element ≡ d.element) × (e.draft ≡ draft_after call d.draft)
       × Made K W Zero (range p.card.selector) (stands weight p) p.area d.draft call r

@@ -9,7 +9,7 @@ mod session;
 
 use script::Script;
 use scripts::{Answer, Choice, Rows, Summary, Tally, Tones, Workspace};
-use selectors::calls::Kind;
+use selectors::calls::SelectorKind;
 use selectors::{Gate, Histogram, Ladder};
 use session::{Rehearsal, session};
 use std::ops::ControlFlow;
@@ -42,18 +42,18 @@ prints `unknown`, a `load` whose file cannot be read `unreadable`.
 /// A session on a card of these tones, with the selector that is chosen.
 fn with_selector<T: Rows>(
     rt: &HostRuntime,
-    selector: Kind,
+    selector: SelectorKind,
     rehearsal: &mut Rehearsal,
 ) -> io::Result<ControlFlow<usize, Choice>> {
     match selector {
-        Kind::Gate => session::<T, Gate>(rt, Gate::new(), Gate::new(), rehearsal),
-        Kind::Histogram => session::<T, Histogram>(
+        SelectorKind::Gate => session::<T, Gate>(rt, Gate::new(), Gate::new(), rehearsal),
+        SelectorKind::Histogram => session::<T, Histogram>(
             rt,
             Histogram::new(),
             Histogram::new(),
             rehearsal,
         ),
-        Kind::Ladder => session::<T, Ladder>(rt, Ladder::new(), Ladder::new(), rehearsal),
+        SelectorKind::Ladder => session::<T, Ladder>(rt, Ladder::new(), Ladder::new(), rehearsal),
     }
 }
 
@@ -75,7 +75,7 @@ fn with_card(
 fn sessions(rt: &HostRuntime, rehearsal: &mut Rehearsal) -> io::Result<usize> {
     let mut choice = Choice {
         tones: Tones::Grey,
-        selector: Kind::Histogram,
+        selector: SelectorKind::Histogram,
     };
     // As many cards as there are: each loop is proved to end.
     for _ in 0..u64::MAX {

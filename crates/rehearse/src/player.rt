@@ -9,7 +9,7 @@ ghost use Rattle.cards.specs.Meanings.{InOrder, notes};
 ghost use Rattle.rehearse.specs.Seen.{Seen, stands};
 ghost use Rattle.rehearse.specs.Plays.{AnswersDue, AnswersLeft, AnswersResidue, AnswersRow, AnswersTone, HandsOver, LoadsFile, Opens, Patches, Ranks, Works, area_after, memory_for};
 ghost use Rattle.rehearse.specs.Rooms.{room_of};
-ghost use Rattle.selectors.specs.Played.{after};
+ghost use Rattle.selectors.specs.Played.{bag_after};
 
 use cards::card::Card;
 use planes::frame::Frame;
@@ -229,7 +229,7 @@ impl<T: Rows, S: Selector> Player<T, S> {
         ensures kept { (self.new.card ≡ self.old.card) × (self.new.memory ≡ self.old.memory)
             × (self.new.area ≡ self.old.area) }
         ensures weights { (c : ℕ) → S.Selector.weight self.new.own c
-            ≡ after (S.Selector.weight self.old.own) (S.Selector.range self.old.own) call c }
+            ≡ bag_after (S.Selector.weight self.old.own) (S.Selector.range self.old.own) call c }
     {
         let reply = play(&mut self.own, call)?;
         Ok(reply.into())

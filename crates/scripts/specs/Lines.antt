@@ -3,8 +3,8 @@ use Rattle.std.specs.Prelude.{◌≡◌, ℕ, ◌≤◌, List, length, drop, cod
 use Rattle.std.specs.Char.{IsScalar}
 use Rattle.std.specs.Int.{w32}
 use Rattle.selectors.specs.Played.{name_of}
-use Rattle.selectors.specs.declared.calls.Call.{Call as SelectorCall}
-use Rattle.selectors.specs.declared.calls.Call.TheVariants.{Put, Total, Select, Empty}
+use Rattle.selectors.specs.declared.calls.SelectorCall.{SelectorCall}
+use Rattle.selectors.specs.declared.calls.SelectorCall.TheVariants.{Put, Total, Select, Empty}
 use Rattle.recipes.specs.Parts.{part_name}
 use Rattle.scripts.specs.Words.{Rest, Natural, Integer, word, tones_name}
 use Rattle.scripts.specs.declared.commands.Choice.{Choice}

@@ -1,7 +1,7 @@
 -- What the calls on an element and on a draft answer and leave. Assumes nothing.
 use Rattle.std.specs.Prelude.{◌≡◌, ℕ, List, [], ◌∷◌, ◌++◌, map, Some, None, Ok, Err, Result, Option}
 use Rattle.calls.specs.Outcomes.{kept_if}
-use Rattle.recipes.specs.Drafts.{letter_of, step_refusal, step_after, steps_of}
+use Rattle.recipes.specs.Drafts.{letter_of, step_refusal, step_after, steps_of, declared_by}
 use Rattle.recipes.specs.Edits.{place_refusal, amount_refusal, order_refusal}
 use Rattle.recipes.specs.Places.{origin, amended}
 use Rattle.recipes.specs.Refusals.{element_number, draft_number}
@@ -52,19 +52,19 @@ edit_order ps k (Standard i) = kept_if (standard_refusal (shape_of i)) k 1
 
 -- the present draft: its steps and how many it declares
 abbrev pub IsDraft : Option Draft → List Move → ℕ → Type 0
-IsDraft (Some d) ss n = (steps_of d ≡ ss) × (d.declared ≡ n)
+IsDraft (Some d) ss n = (steps_of d ≡ ss) × (declared_by d ≡ n)
 IsDraft None ss n = ⊥
 
 -- the answer of a step of a letter on a draft: done, or the draft's refusal by its number
 abbrev pub StepAnswered : Draft → ℕ → Result Answer Fault → Type 0
 StepAnswered d l r =
-    DoneUnless fault.Draft draft_number (step_refusal (letter_of l) (steps_of d) d.declared) r
+    DoneUnless fault.Draft draft_number (step_refusal (letter_of l) (steps_of d) (declared_by d)) r
 
 -- a step on the present draft with an element
 abbrev pub Stepped : Option Draft → Shape → ℕ → Option Draft → Result Answer Fault → Type 0
 Stepped None e l after r = (after ≡ None) × (r ≡ Err fault.Unknown)
 Stepped (Some d) e l after r =
-    IsDraft after (step_after (letter_of l) e (steps_of d) d.declared) d.declared
+    IsDraft after (step_after (letter_of l) e (steps_of d) (declared_by d)) (declared_by d)
     × StepAnswered d l r
 
 -- each call on the present draft

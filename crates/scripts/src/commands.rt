@@ -1,7 +1,7 @@
 //! What a line of a script asks for.
 
 use recipes::places::Part;
-use selectors::calls::{Call as SelectorCall, Kind};
+use selectors::calls::{SelectorCall, SelectorKind};
 use std::str::FromStr;
 
 /// A kind of tones.
@@ -42,7 +42,7 @@ impl FromStr for Tones {
 #[derive(Clone, Copy, PartialEq, Eq, Debug)]
 pub struct Choice {
     pub tones: Tones,
-    pub selector: Kind,
+    pub selector: SelectorKind,
 }
 
 /// A call on the present element.

@@ -5,7 +5,7 @@ ghost use Rattle.scripts.specs.Words.{ReadsAll};
 
 use crate::commands::{Call, Choice, Command, Drafting, Edit, Opening, Patch};
 use crate::words::number;
-use selectors::calls::Call as SelectorCall;
+use selectors::calls::SelectorCall;
 
 /// The choice of a card.
 pub fn read_choice(name: &str, rest: &[&str]) -> Option<Choice>

@@ -1,7 +1,7 @@
 //! The element and the draft at hand. They stay where a new card is made.
 
 ghost use Rattle.std.specs.Prelude.{◌≡◌, [], ◌∷◌, None};
-ghost use Rattle.recipes.specs.Placed.{placed};
+ghost use Rattle.recipes.specs.Placed.{placed, order_of};
 ghost use Rattle.recipes.specs.Places.{origin};
 ghost use Rattle.scripts.specs.Workspaces.{Drafted, Edited, Stepped, edit_order, edit_places};
 
@@ -13,15 +13,15 @@ use recipes::element::Element;
 /// The present element, and the present draft until it is handed over.
 #[derive(Drop)]
 pub struct Workspace {
-    element: Element,
-    draft: Option<Draft>,
+    pub element: Element,
+    pub draft: Option<Draft>,
 }
 
 impl Workspace {
     /// A new element, and no draft.
     pub fn new() -> Workspace
         ensures places { placed result.element ≡ origin ∷ [] }
-        ensures order { result.element.order ≡ 1 }
+        ensures order { order_of result.element ≡ 1 }
         ensures draft { result.draft ≡ None }
     {
         Workspace {
@@ -34,8 +34,8 @@ impl Workspace {
     pub fn edit(&mut self, edit: Edit) -> Result<Answer, Fault>
         ensures answer { Edited (placed self.old.element) edit result }
         ensures places { placed self.new.element ≡ edit_places (placed self.old.element) edit }
-        ensures order { self.new.element.order
-            ≡ edit_order (placed self.old.element) self.old.element.order edit }
+        ensures order { (order_of self.new.element)
+            ≡ edit_order (placed self.old.element) (order_of self.old.element) edit }
         ensures draft { self.new.draft ≡ self.old.draft }
     {
         match edit {

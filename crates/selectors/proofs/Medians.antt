@@ -10,7 +10,7 @@ use Rattle.selectors.specs.declared.refusals.SelectRefusal.{SelectRefusal}
 use Rattle.selectors.specs.Bag.{below, added, Ranked}
 use Rattle.selectors.specs.Calls.{put_refusal, Selected}
 use Rattle.selectors.specs.Entries.{blank, share, weigh}
-use Rattle.selectors.specs.Median.{put_at, put_count, Taken, Halves, Median}
+use Rattle.selectors.specs.Median.{put_at, put_count, AllPut, Halves, Median}
 use Rattle.selectors.proofs.Sums.{below_more, below_at}
 use Rattle.selectors.proofs.Ranks.{ranked_below}
 use Rattle.selectors.proofs.Weighing.{weigh_some}
@@ -29,8 +29,8 @@ weigh_next es i c =
     let fin : weigh es i c + share (get_or es i blank) c ≡ added (weigh es i) (get_or es i blank).code (get_or es i blank).weight c = grind (arith, nat_tests) in
     below_more (λ k. share (get_or es k blank) c) i ∙ fin
 
-pub taken_more : (es : List Entry) (R i : ℕ) → Taken es R i → put_at es R i ≡ None → Taken es R (i + 1)
-taken_more es R i t here = each_more (λ k. put_at es R k ≡ None) i t here
+pub all_put_more : (es : List Entry) (R i : ℕ) → AllPut es R i → put_at es R i ≡ None → AllPut es R (i + 1)
+all_put_more es R i t here = each_more (λ k. put_at es R k ≡ None) i t here
 
 -- what is taken has weight and a code below the range
 pub put_fit : (w : ℕ → ℕ) (R c a : ℕ) → put_refusal w R c a ≡ None → (0 < a) × (c < R)
@@ -41,9 +41,9 @@ put_fit w R c a ok =
     )
 
 -- entries that are all taken weigh something, unless there are none
-pub taken_none : (es : List Entry) (R n : ℕ) → Taken es R n → below (weigh es n) R ≡ 0 → n ≡ 0
-taken_none es R zero t z = refl
-taken_none es R (suc n) t z =
+pub all_put_none : (es : List Entry) (R n : ℕ) → AllPut es R n → below (weigh es n) R ≡ 0 → n ≡ 0
+all_put_none es R zero t z = refl
+all_put_none es R (suc n) t z =
     let fit = put_fit (weigh es 0) R (get_or es 0 blank).code (get_or es 0 blank).weight (t 0 (omega arith)) in
     absurd (omega (arith, fit.0, weigh_some es (suc n) 0 (get_or es 0 blank).code (omega arith) refl, below_at (weigh es (suc n)) (get_or es 0 blank).code R fit.1))
 
@@ -56,9 +56,9 @@ pub half_none : (w : ℕ → ℕ) (R t r : ℕ) → t ≡ below w R → r ≡ t 
 half_none w R t r whole half none = ⊎_elim (λ (z : r ≡ 0). omega arith) (λ (z : below w R < r). absurd (omega arith)) none
 
 -- with all entries put, the code at that rank is the median, and no such code says that there are no entries
-pub median_end : (es : List Entry) (w : ℕ → ℕ) (R t r : ℕ) (x : Result ℕ SelectRefusal) → Taken es R (length es) → w ≡ weigh es (length es) → t ≡ below w R → r ≡ t / 2 + min 1 (t % 2) → Selected w R r x → Median es R (result_map_both (λ n. n) (λ _. NoEntries) x) × ((d : ℕ) → w d ≡ weigh es (put_count es (result_map_both (λ n. n) (λ _. NoEntries) x)) d)
+pub median_end : (es : List Entry) (w : ℕ → ℕ) (R t r : ℕ) (x : Result ℕ SelectRefusal) → AllPut es R (length es) → w ≡ weigh es (length es) → t ≡ below w R → r ≡ t / 2 + min 1 (t % 2) → Selected w R r x → Median es R (result_map_both (λ n. n) (λ _. NoEntries) x) × ((d : ℕ) → w d ≡ weigh es (put_count es (result_map_both (λ n. n) (λ _. NoEntries) x)) d)
 median_end es w R t r (Ok c) taken bag whole half sel = ((taken, subst (λ v. Halves v R c) bag (halves_from w R t r c whole half sel.0 sel.2)), λ d. ap (λ v. v d) bag)
 median_end es w R t r (Err e) taken bag whole half sel =
     let zero : below w R ≡ 0 = half_none w R t r whole half sel.1 in
-    let none : length es ≡ 0 = taken_none es R (length es) taken (subst (λ v. below v R ≡ 0) bag zero) in
+    let none : length es ≡ 0 = all_put_none es R (length es) taken (subst (λ v. below v R ≡ 0) bag zero) in
     ((refl, none), λ d. ap (λ v. v d) bag ∙ ap (λ k. weigh es k d) none)

@@ -25,8 +25,8 @@ put_at es R i =
     put_refusal (weigh es i) R e.code e.weight
 
 -- the first n entries are taken
-abbrev pub Taken : List Entry → ℕ → ℕ → Type 0
-Taken es R n = (i : ℕ) → i < n → put_at es R i ≡ None
+abbrev pub AllPut : List Entry → ℕ → ℕ → Type 0
+AllPut es R n = (i : ℕ) → i < n → put_at es R i ≡ None
 
 -- the codes below c weigh less than half of the total, and those up to c at least half
 abbrev pub Halves : (ℕ → ℕ) → ℕ → ℕ → Type 0
@@ -34,9 +34,9 @@ Halves w R c = (2 * below w c < below w R) × (below w R ≤ 2 * below w (suc c)
 
 -- the median of the entries where all are taken and there is one, or what is refused
 abbrev pub Median : List Entry → ℕ → Result ℕ MedianRefusal → Type 0
-Median es R (Ok c) = Taken es R (length es) × Halves (bag es) R c
+Median es R (Ok c) = AllPut es R (length es) × Halves (bag es) R c
 Median es R (Err (Refused i e)) =
-    (i < length es) × Taken es R i × (put_at es R i ≡ Some (median_number (Refused i e)))
+    (i < length es) × AllPut es R i × (put_at es R i ≡ Some (median_number (Refused i e)))
 Median es R (Err NoEntries) = (median_number NoEntries ≡ 5) × (length es ≡ 0)
 
 -- how many entries were put

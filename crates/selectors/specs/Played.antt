@@ -1,10 +1,10 @@
 -- What a call answers on a selector with the bag w and the range R, and the bag that it leaves.
 -- Assumes nothing.
 use Rattle.std.specs.Prelude.{◌≡◌, ℕ, List, Some, None, Option, Ok, Err, codes, Result}
-use Rattle.selectors.specs.declared.calls.Kind.{Kind}
-use Rattle.selectors.specs.declared.calls.Kind.TheVariants.{Gate, Histogram, Ladder}
-use Rattle.selectors.specs.declared.calls.Call.{Call}
-use Rattle.selectors.specs.declared.calls.Call.TheVariants.{Put, Total, Select, Empty}
+use Rattle.selectors.specs.declared.calls.SelectorKind.{SelectorKind}
+use Rattle.selectors.specs.declared.calls.SelectorKind.TheVariants.{Gate, Histogram, Ladder}
+use Rattle.selectors.specs.declared.calls.SelectorCall.{SelectorCall}
+use Rattle.selectors.specs.declared.calls.SelectorCall.TheVariants.{Put, Total, Select, Empty}
 use Rattle.selectors.specs.declared.calls.Reply.{Reply}
 use Rattle.selectors.specs.declared.calls.Reply.TheVariants as reply
 use Rattle.selectors.specs.declared.calls.CallRefusal.{CallRefusal}
@@ -14,7 +14,7 @@ use Rattle.selectors.specs.Bag.{below}
 use Rattle.selectors.specs.Calls.{put_bag, put_number, put_refusal, put_text, Selected, select_number, select_text}
 
 -- the word that names a kind
-abbrev pub name_of : Kind → List ℕ
+abbrev pub name_of : SelectorKind → List ℕ
 name_of Gate = codes "gate"
 name_of Histogram = codes "histogram"
 name_of Ladder = codes "ladder"
@@ -45,7 +45,7 @@ code_or_number (Ok c) = Ok (reply.Code c)
 code_or_number (Err e) = Err (select_number e)
 
 -- the answer to each call
-abbrev pub Answered : (ℕ → ℕ) → ℕ → Call → Result Reply CallRefusal → Type 0
+abbrev pub Answered : (ℕ → ℕ) → ℕ → SelectorCall → Result Reply CallRefusal → Type 0
 Answered w R (Put c a) r = numbered r ≡ done_unless (put_refusal w R c a)
 Answered w R Total r = numbered r ≡ Ok (reply.Total (below w R))
 Answered w R (Select k) r =
@@ -53,8 +53,8 @@ Answered w R (Select k) r =
 Answered w R Empty r = numbered r ≡ Ok reply.Done
 
 -- the bag after each call
-abbrev pub after : (ℕ → ℕ) → ℕ → Call → ℕ → ℕ
-after w R (Put c a) = put_bag (put_refusal w R c a) w c a
-after w R Total = w
-after w R (Select k) = w
-after w R Empty = λ _. 0
+abbrev pub bag_after : (ℕ → ℕ) → ℕ → SelectorCall → ℕ → ℕ
+bag_after w R (Put c a) = put_bag (put_refusal w R c a) w c a
+bag_after w R Total = w
+bag_after w R (Select k) = w
+bag_after w R Empty = λ _. 0

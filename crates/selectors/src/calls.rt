@@ -1,8 +1,8 @@
 //! Calls of a selector as values: the names of the kinds, the calls, and what they answer.
 ghost use Rattle.std.specs.Prelude.{◌≡◌, ℕ, MatchResult, Some, codes, ◌≢◌, OnErr};
-ghost use Rattle.selectors.specs.Played.{Answered, after, call_number, call_text, name_of};
+ghost use Rattle.selectors.specs.Played.{Answered, bag_after, call_number, call_text, name_of};
 ghost use Rattle.selectors.specs.declared.calls.CallRefusal.TheVariants as refused;
-ghost use Rattle.selectors.specs.declared.calls.Kind.{Kind as Named};
+ghost use Rattle.selectors.specs.declared.calls.SelectorKind.{SelectorKind as Named};
 
 use crate::refusals::{PutRefusal, SelectRefusal};
 use crate::selector::Selector;
@@ -12,7 +12,7 @@ use std::str::FromStr;
 
 /// One of the three selectors.
 #[derive(Clone, Copy, PartialEq, Eq, Debug)]
-pub enum Kind {
+pub enum SelectorKind {
     Gate,
     Histogram,
     Ladder,
@@ -33,17 +33,17 @@ impl fmt::Display for UnknownKind {
 impl Error for UnknownKind {}
 
 /// Reads a selector's name.
-impl FromStr for Kind {
+impl FromStr for SelectorKind {
     type Err = UnknownKind;
 
     ghost from_str_gives = { λ word result. MatchResult result (λ kind. word ≡ name_of kind)
         (λ _. (kind : Named) → word ≢ name_of kind) };
 
-    fn from_str(name: &str) -> Result<Kind, UnknownKind> {
+    fn from_str(name: &str) -> Result<SelectorKind, UnknownKind> {
         match name {
-            "gate" => Ok(Kind::Gate),
-            "histogram" => Ok(Kind::Histogram),
-            "ladder" => Ok(Kind::Ladder),
+            "gate" => Ok(SelectorKind::Gate),
+            "histogram" => Ok(SelectorKind::Histogram),
+            "ladder" => Ok(SelectorKind::Ladder),
             _ => Err(UnknownKind),
         }
     }
@@ -51,7 +51,7 @@ impl FromStr for Kind {
 
 /// A call of a selector.
 #[derive(Clone, Copy, PartialEq, Eq, Debug)]
-pub enum Call {
+pub enum SelectorCall {
     /// A code and the weight that it is given.
     Put(u32, u32),
     Total,
@@ -118,23 +118,23 @@ impl From<SelectRefusal> for CallRefusal {
 }
 
 /// Makes the call; a refused one leaves the selector as it was.
-pub fn play<S: Selector>(selector: &mut S, call: Call) -> Result<Reply, CallRefusal>
+pub fn play<S: Selector>(selector: &mut S, call: SelectorCall) -> Result<Reply, CallRefusal>
     requires { S.ordered selector.old }
     ensures answer { Answered (S.weight selector.old) (S.range selector.old) call result }
     ensures weights { (c : ℕ) → S.weight selector.new c
-        ≡ after (S.weight selector.old) (S.range selector.old) call c }
+        ≡ bag_after (S.weight selector.old) (S.range selector.old) call c }
     ensures kept { OnErr result (selector.new ≡ selector.old) }
     ensures range_kept { S.range selector.new ≡ S.range selector.old }
     ensures in_order { S.ordered selector.new }
 {
     match call {
-        Call::Put(code, weight) => {
+        SelectorCall::Put(code, weight) => {
             selector.put(code, weight)?;
             Ok(Reply::Done)
         }
-        Call::Total => Ok(Reply::Total(selector.total())),
-        Call::Select(rank) => Ok(Reply::Code(selector.select(rank)?)),
-        Call::Empty => {
+        SelectorCall::Total => Ok(Reply::Total(selector.total())),
+        SelectorCall::Select(rank) => Ok(Reply::Code(selector.select(rank)?)),
+        SelectorCall::Empty => {
             selector.empty();
             Ok(Reply::Done)
         }

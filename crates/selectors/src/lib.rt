@@ -14,7 +14,7 @@ mod selector;
 #[cfg(test)]
 mod tests;
 
-pub use calls::{Call, CallRefusal, Kind, Reply, UnknownKind, play};
+pub use calls::{CallRefusal, Reply, SelectorCall, SelectorKind, UnknownKind, play};
 pub use entries::Entry;
 pub use gate::Gate;
 pub use histogram::Histogram;

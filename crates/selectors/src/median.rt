@@ -1,7 +1,7 @@
 //! The weighted median of a list of codes, by any selector.
 ghost use Rattle.std.specs.Prelude.{◌≡◌, ℕ, Some, length};
 ghost use Rattle.selectors.specs.Entries.{weigh};
-ghost use Rattle.selectors.specs.Median.{Median, Taken, median_number, median_text, put_count};
+ghost use Rattle.selectors.specs.Median.{Median, AllPut, median_number, median_text, put_count};
 ghost use Rattle.selectors.specs.Theorems.{AnswerHasWeight, OneAnswer};
 
 use crate::entries::Entry;

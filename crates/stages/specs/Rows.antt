@@ -1,5 +1,5 @@
 -- What a stretch of a row of a stage leaves in memory and in the selector. Assumes nothing.
-use Rattle.std.specs.Prelude.{ℕ, ◌+◌, ◌-◌, cond, List, nat_lt}
+use Rattle.std.specs.Prelude.{ℕ, ◌+◌, ◌-◌, if◌then◌else◌, List, nat_lt}
 use Rattle.planes.specs.Sizes.{cell}
 use Rattle.planes.specs.declared.size.Size.{Size}
 use Rattle.recipes.specs.declared.recipe.Stage.{Stage}
@@ -10,7 +10,7 @@ use Rattle.tones.specs.Kind.{Kind}
 -- the window of the last pixel of the columns from left up to right, and what the selector held
 -- before where there is none
 abbrev pub last_window : (ℕ → ℕ → ℕ) → (ℕ → ℕ) → ℕ → ℕ → ℕ → ℕ
-last_window bags before left right c = cond (nat_lt left right) (bags (right - 1) c) (before c)
+last_window bags before left right c = if nat_lt left right then bags (right - 1) c else before c
 
 -- of the picture whose plane begins at `from` in a memory
 module _ {T R : Type 0} (K : Kind T R) (size : Size) (s : Stage) (from : ℕ) (m : List R) where

@@ -1,11 +1,11 @@
 -- What a stage makes of a picture, pixel by pixel, and what a recipe makes of it. Assumes nothing.
-use Rattle.std.specs.Prelude.{ℕ, zero, suc, ◌+◌, ◌-◌, Bool, false, cond, ◌&&◌, List, [], ◌∷◌, ℤ, pos, negsuc, ◌+ℤ◌, ◌-ℤ◌, neg_ℤ, ◌==◌, nat_le, nat_lt, unsigned_abs}
+use Rattle.std.specs.Prelude.{ℕ, zero, suc, ◌+◌, ◌-◌, Bool, false, if◌then◌else◌, ◌&&◌, List, [], ◌∷◌, ℤ, pos, negsuc, ◌+ℤ◌, ◌-ℤ◌, neg_ℤ, ◌==◌, nat_le, nat_lt, unsigned_abs}
 use Rattle.planes.specs.declared.size.Size.{Size}
 use Rattle.recipes.specs.declared.places.Place.{Place}
 use Rattle.recipes.specs.declared.recipe.Operation.{Operation}
 use Rattle.recipes.specs.declared.recipe.Operation.TheVariants.{Erosion, Dilation}
 use Rattle.recipes.specs.declared.recipe.Stage.{Stage}
-use Rattle.recipes.specs.Placed.{placed}
+use Rattle.recipes.specs.Placed.{placed, order_of}
 use Rattle.recipes.specs.Places.{core}
 use Rattle.selectors.specs.Bag.{below}
 use Rattle.tones.specs.Kind.{Kind}
@@ -31,7 +31,7 @@ shifted K Dilation t a = K.lowered t (neg_ℤ a)
 
 -- a core place weighs k, a soft one 1
 abbrev pub weight : ℕ → Place → ℕ
-weight k p = cond (core p) k 1
+weight k p = if core p then k else 1
 
 -- an erosion takes rank k, a dilation rank total − k + 1
 abbrev pub rank_of : Operation → ℕ → ℕ → ℕ
@@ -41,7 +41,7 @@ rank_of Dilation k total = suc (total - k)
 -- the least of the codes below n such that the codes up to it weigh at least r together
 unfoldable pub ranked_code : (ℕ → ℕ) → ℕ → ℕ → ℕ
 ranked_code w r zero = 0
-ranked_code w r (suc n) = cond (nat_le r (below w n)) (ranked_code w r n) n
+ranked_code w r (suc n) = if nat_le r (below w n) then ranked_code w r n else n
 
 -- the window of the pixel (x, y) of a picture f on a card of that size
 module _ {T R : Type 0} (K : Kind T R) (size : Size) (s : Stage) (f : Picture T) (x y : ℕ) where
@@ -62,7 +62,7 @@ module _ {T R : Type 0} (K : Kind T R) (size : Size) (s : Stage) (f : Picture T)
 
   -- what a place adds to the weight of the code c: nothing where it falls outside the card
   abbrev pub adds : Place → ℕ → ℕ
-  adds p c = cond (inside p && code_at p == c) (weight s.element.order p) 0
+  adds p c = if inside p && code_at p == c then weight (order_of s.element) p else 0
 
   -- what some places add together
   unfoldable pub window : List Place → ℕ → ℕ
@@ -77,7 +77,7 @@ module _ {T R : Type 0} (K : Kind T R) (size : Size) (s : Stage) (f : Picture T)
   total = below bag K.count
 
   abbrev pub rank : ℕ
-  rank = rank_of s.operation s.element.order total
+  rank = rank_of s.operation (order_of s.element) total
 
   -- what the stage makes of the pixel
   unfoldable pub cleaned : T

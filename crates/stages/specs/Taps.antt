@@ -1,8 +1,8 @@
 -- A window prepared for its stage: each place turned into a tap, by which an erosion reads. Assumes
 -- nothing.
-use Rattle.std.specs.Prelude.{◌≡◌, ℕ, ◌+◌, ◌<◌, ◌≤◌, Bool, true, cond, ◌&&◌, length, ℤ, pos, ◌+ℤ◌, neg_ℤ, Some, None, Option, ◌==◌, unsigned_abs, slice_index_or}
+use Rattle.std.specs.Prelude.{◌≡◌, ℕ, ◌+◌, ◌<◌, ◌≤◌, Bool, true, if◌then◌else◌, ◌&&◌, length, ℤ, pos, ◌+ℤ◌, neg_ℤ, Some, None, Option, ◌==◌, unsigned_abs, slice_index_or}
 use Rattle.planes.specs.declared.size.Size.{Size}
-use Rattle.recipes.specs.Placed.{placed}
+use Rattle.recipes.specs.Placed.{placed, order_of}
 use Rattle.recipes.specs.Places.{origin}
 use Rattle.recipes.specs.declared.element.Element.{Element}
 use Rattle.recipes.specs.declared.places.Place.{Place}
@@ -25,13 +25,13 @@ tap_of s p =
     record {
       dx = turned s.operation p.dx;
       dy = turned s.operation p.dy;
-      weight = weight s.element.order p;
+      weight = weight (order_of s.element) p;
       amount = turned s.operation p.amount;
     }
 
 -- the column or row that lies d from x, of a card that has n of them
 abbrev pub reached : ℕ → ℤ → ℕ → Option ℕ
-reached x d n = cond (on_card n (pos x +ℤ d)) (Some (unsigned_abs (pos x +ℤ d))) None
+reached x d n = if on_card n (pos x +ℤ d) then Some (unsigned_abs (pos x +ℤ d)) else None
 
 -- a tap falls on the card at the pixel (x, y)
 abbrev pub tap_inside : Size → ℕ → ℕ → Tap → Bool
@@ -49,11 +49,11 @@ module _ {T R : Type 0} (K : Kind T R) (size : Size) (f : Picture T) (x y : ℕ)
 
   -- that code, where the tap falls on the card
   abbrev pub tap_reads : Tap → Option ℕ
-  tap_reads t = cond (tap_inside size x y t) (Some (tap_code t)) None
+  tap_reads t = if tap_inside size x y t then Some (tap_code t) else None
 
   -- what a tap adds to the weight of the code c
   abbrev pub tap_adds : Tap → ℕ → ℕ
-  tap_adds t c = cond (tap_inside size x y t && tap_code t == c) t.weight 0
+  tap_adds t c = if tap_inside size x y t && tap_code t == c then t.weight else 0
 
 -- a selector of range n takes one place more: at most 48 places of at most 49 each are in
 abbrev pub TakesOneMore : (ℕ → ℕ) → ℕ → Type 0

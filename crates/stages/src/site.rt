@@ -27,7 +27,7 @@ impl<'a, T: Tone> Site<'a, T> {
     ghost use Rattle.stages.specs.Taps.{IsInner, IsNear};
 
     /// The pixel in column x and row y of a plane.
-    pub fn new(frame: Frame, plane: &'a [T::Row], x: usize, y: usize) -> Self
+    pub(crate) fn new(frame: Frame, plane: &'a [T::Row], x: usize, y: usize) -> Self
         requires plane { length plane.now ≡ area frame.size }
         requires column { x < frame.size.width }
         requires row { y < frame.size.height }

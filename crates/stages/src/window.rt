@@ -2,7 +2,7 @@
 //! pixel through it.
 
 ghost use Rattle.std.specs.Prelude.{◌≡◌, ℕ, ◌+◌, ◌^◌, ◌<◌, ◌≤◌, true, map, length, take};
-ghost use Rattle.recipes.specs.Placed.{placed};
+ghost use Rattle.recipes.specs.Placed.{placed, order_of};
 ghost use Rattle.stages.specs.Sites.{added_at, cleaned_at, window_at};
 ghost use Rattle.stages.specs.Stages.{rank_of};
 ghost use Rattle.stages.specs.Taps.{IsFlat, IsInner, IsNear, TakesOneMore, tap_of};
@@ -18,7 +18,8 @@ use tones::Tone;
 /// element has at most 49 places and nothing here allocates.
 #[derive(Clone, Copy)]
 pub struct Window {
-    stage: Stage,
+    /// The stage that it is the window of.
+    pub stage: Stage,
     taps: [Tap; 49],
     count: usize,
     flat: bool,
@@ -92,7 +93,7 @@ impl Window {
     /// dilation the rank total - k + 1.
     pub(crate) fn rank(&self, total: u32) -> u32
         requires { total < 2 ^ 31 }
-        ensures { result ≡ rank_of self.now.stage.operation self.now.stage.element.order total }
+        ensures { result ≡ rank_of self.now.stage.operation (order_of self.now.stage.element) total }
     {
         let order = self.stage.element.order_index();
         match self.stage.operation {

@@ -1,6 +1,6 @@
 -- The kind of colours: ranked by brightness, then falling saturation, then hue; no amount lowers
 -- one. Assumes nothing.
-use Rattle.std.specs.Prelude.{◌≡◌, ℕ, ◌+◌, ◌-◌, ◌*◌, ◌/◌, ◌%◌, ◌<◌, min, Bool, false, cond, ◌&&◌, ◌⊎◌, ◌↔◌, ℤ, pos, Result, MatchResult, nat_lt}
+use Rattle.std.specs.Prelude.{◌≡◌, ℕ, ◌+◌, ◌-◌, ◌*◌, ◌/◌, ◌%◌, ◌<◌, min, Bool, false, if◌then◌else◌, ◌&&◌, ◌⊎◌, ◌↔◌, ℤ, pos, Result, MatchResult, nat_lt}
 use Rattle.std.proofs.Common.{arith}
 use Rattle.tones.specs.Kind.{Kind}
 use Rattle.tones.specs.Refusals.{refusal_number}
@@ -44,10 +44,10 @@ colours = record {
   count = 23592960;
   span = 0;
   code = code;
-  tone = λ c. cond (nat_lt c 23592960) (colour (c % 360) (255 - c / 360 % 256) (c / 360 / 256)) top;
+  tone = λ c. (if nat_lt c 23592960 then colour (c % 360) (255 - c / 360 % 256) (c / 360 / 256) else top);
   lowered = λ t _. t;
   row = λ t. parts t.hue t.saturation t.brightness;
-  counted = λ r. cond (is_colour_row r) (colour r.hue r.saturation r.brightness) top;
+  counted = λ r. (if is_colour_row r then colour r.hue r.saturation r.brightness else top);
 }
 
 -- making a colour: parts within the limits give the colour of those parts, any others are refused

@@ -1,6 +1,6 @@
 -- What a tone kind is: its tones counted from 0, lowered by whole amounts, and laid in rows.
 -- Assumes nothing.
-use Rattle.std.specs.Prelude.{◌≡◌, ℕ, ◌-◌, ◌^◌, ◌<◌, ◌≤◌, cond, ℤ, pos, nat_le, unsigned_abs}
+use Rattle.std.specs.Prelude.{◌≡◌, ℕ, ◌-◌, ◌^◌, ◌<◌, ◌≤◌, if◌then◌else◌, ℤ, pos, nat_le, unsigned_abs}
 use Rattle.std.specs.Int.{int_max, int_min}
 
 pub record Kind (T Row : Type 0) : Type 0 where
@@ -51,4 +51,4 @@ nearest low high z = int_max low (int_min z high)
 
 -- lowered as `less` says by an amount within -span..span, and not at all by any other
 abbrev pub lowered_within : {T : Type 0} → ℕ → (T → ℤ → T) → T → ℤ → T
-lowered_within span less t a = cond (nat_le (unsigned_abs a) span) (less t a) t
+lowered_within span less t a = if nat_le (unsigned_abs a) span then less t a else t

@@ -1,6 +1,6 @@
 -- The kind of reliefs: heights from -255 to 255; lowered by r - a, held to -255..255.
 -- Assumes nothing.
-use Rattle.std.specs.Prelude.{◌≡◌, ◌≤◌, Bool, false, cond, ℤ, pos, ◌+ℤ◌, ◌-ℤ◌, neg_ℤ, Result, MatchResult, nat_le, unsigned_abs}
+use Rattle.std.specs.Prelude.{◌≡◌, ◌≤◌, Bool, false, if◌then◌else◌, ℤ, pos, ◌+ℤ◌, ◌-ℤ◌, neg_ℤ, Result, MatchResult, nat_le, unsigned_abs}
 use Rattle.std.proofs.Common.{arith}
 use Rattle.std.proofs.lemmas.Int.{ints, clamps}
 use Rattle.tones.specs.Kind.{Kind, nearest, lowered_within}
@@ -35,7 +35,7 @@ reliefs = record {
   tone = λ c. relief (pos c -ℤ pos 255);
   lowered = lowered_within 255 relief_less;
   row = λ t. t.height;
-  counted = λ z. cond (is_height z) (relief z) (relief (pos 255));
+  counted = λ z. (if is_height z then relief z else relief (pos 255));
 }
 
 -- making a relief: a height within -255..255 gives the relief of that height, any other is refused

@@ -1,4 +1,4 @@
-// Colours: ranked by brightness, then falling saturation, then hue; no amount lowers one.
+//! Colours: ranked by brightness, then falling saturation, then hue; no amount lowers one.
 ghost use Rattle.std.specs.Prelude.{◌<◌};
 
 use crate::interface::Tone;

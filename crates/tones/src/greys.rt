@@ -1,4 +1,4 @@
-// Greys: each its own code; lowered by the difference, held to 0..255.
+//! Greys: each its own code; lowered by the difference, held to 0..255.
 ghost use Rattle.std.specs.Prelude.{◌<◌};
 
 use crate::interface::Tone;

@@ -1,4 +1,4 @@
-// What every tone kind gives. The meaning is one record, and every call reads a field of it.
+//! What every tone kind gives. The meaning is one record, and every call reads a field of it.
 ghost use Rattle.std.specs.Prelude.{◌≡◌, neg_ℤ};
 ghost use Rattle.tones.specs.Kind.{Kind, Laws};
 

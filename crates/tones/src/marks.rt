@@ -1,4 +1,4 @@
-// Marks: no has code 0, yes code 1; no amount lowers one.
+//! Marks: no has code 0, yes code 1; no amount lowers one.
 ghost use Rattle.std.specs.Prelude.{◌≡◌, pos};
 ghost use Rattle.tones.specs.MarkLaws.{mark_laws};
 ghost use Rattle.tones.specs.Marks.{mark, mark_value, marks};

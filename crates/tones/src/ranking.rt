@@ -1,4 +1,4 @@
-// What can be said of the tones of any kind, by their codes.
+//! What can be said of the tones of any kind, by their codes.
 ghost use Rattle.std.specs.Prelude.{◌≡◌, min, max};
 ghost use Rattle.tones.specs.Ranking.{at_least, at_or_above};
 

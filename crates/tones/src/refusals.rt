@@ -1,4 +1,4 @@
-// Why a tone is not made.
+//! Why a tone is not made.
 ghost use Rattle.std.specs.Prelude.{◌≡◌, Some};
 ghost use Rattle.tones.specs.Refusals.{refusal_number, refusal_text};
 

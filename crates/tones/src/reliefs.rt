@@ -1,4 +1,4 @@
-// Reliefs: -255 has code 0; lowered by the difference, held to -255..255.
+//! Reliefs: -255 has code 0; lowered by the difference, held to -255..255.
 ghost use Rattle.std.specs.Prelude.{◌≤◌, unsigned_abs};
 
 use crate::interface::Tone;

@@ -1,4 +1,4 @@
-// What the kinds do on examples.
+//! What the kinds do on examples.
 use crate::{Colour, ColourRow, Grey, Mark, Relief, Tone, count_at_least, higher_of, lower_of};
 use std::process::Abort;
 use std::test::Fail;

@@ -6,10 +6,10 @@ use Rattle.selectors.specs.declared.refusals.PutRefusal.{PutRefusal}
 use Rattle.selectors.specs.Bag.{below, added}
 use Rattle.selectors.specs.Calls.{put_number, put_refusal, Selected}
 use Rattle.selectors.specs.Entries.{blank, weigh}
-use Rattle.selectors.specs.Median.{Taken}
+use Rattle.selectors.specs.Median.{AllPut}
 use Rattle.selectors.proofs.Ranks.{one_answer, answer_has_weight}
 use Rattle.selectors.proofs.Weighing.{weigh_zero}
-use Rattle.selectors.proofs.Medians.{put_next, weigh_next, taken_more, median_end}
+use Rattle.selectors.proofs.Medians.{put_next, weigh_next, all_put_more, median_end}
 use Rattle.selectors.proofs.median.weighted_median.Goals as goal
 
 pub loop-index-init : goal.loop-index-init
@@ -28,7 +28,7 @@ returns-in_err-map_err g c =
     let answer : Some (put_number told.0) ≡ put_refusal (s.weight c.loop-index.selector) (s.range c.loop-index.selector) (get_or es i blank).code (get_or es i blank).weight = rw told.1 at put.answer in
     let kept : (d : ℕ) → s.weight c.put.new.self d ≡ s.weight c.loop-index.selector d = λ d. rw told.1 at (put.weights d) in
     rw told.2 (record {
-      answer = (c.loop-index-test.true, subst (λ R. Taken es R i) keep inv.3, put_next es (s.weight c.loop-index.selector) (s.range c.loop-index.selector) (s.range c.args.selector.now) i (Some (put_number told.0)) inv.2 range answer);
+      answer = (c.loop-index-test.true, subst (λ R. AllPut es R i) keep inv.3, put_next es (s.weight c.loop-index.selector) (s.range c.loop-index.selector) (s.range c.args.selector.now) i (Some (put_number told.0)) inv.2 range answer);
       weights = λ d. kept d ∙ inv.2 d;
       range_kept = put.range_kept ∙ range;
       in_order = put.in_order;
@@ -51,7 +51,7 @@ loop-index-preserved g c =
       put.in_order,
       put.range_kept ∙ inv.1,
       λ d. more d ∙ ap (λ w. added w code a d) (fun_ext inv.2) ∙ sym (weigh_next es i d),
-      taken_more es (s.range c.empty.new.self) i inv.3 (put_next es (s.weight c.loop-index.selector) (s.range c.loop-index.selector) (s.range c.empty.new.self) i None inv.2 inv.1 answer),
+      all_put_more es (s.range c.empty.new.self) i inv.3 (put_next es (s.weight c.loop-index.selector) (s.range c.loop-index.selector) (s.range c.empty.new.self) i None inv.2 inv.1 answer),
     )
 
 pub returns : goal.returns
@@ -65,7 +65,7 @@ returns g c =
     let range : s.range sel ≡ s.range c.args.selector.now = inv.1 ∙ keep in
     let end : c.loop-index.index-counter ≡ n = omega arith in
     let bag : s.weight sel ≡ weigh es n = fun_ext inv.2 ∙ ap (weigh es) end in
-    let taken : Taken es (s.range c.args.selector.now) n = subst (λ R. Taken es R n) keep (subst (Taken es (s.range c.empty.new.self)) end inv.3) in
+    let taken : AllPut es (s.range c.args.selector.now) n = subst (λ R. AllPut es R n) keep (subst (AllPut es (s.range c.empty.new.self)) end inv.3) in
     let whole : c.total.result ≡ below (s.weight sel) (s.range c.args.selector.now) = c.total.ensures.answer ∙ ap (below (s.weight sel)) range in
     let chosen = subst (λ R. Selected (s.weight sel) R c.div_ceil-half.result c.select.result) range c.select.ensures.answer in
     let fin = median_end es (s.weight sel) (s.range c.args.selector.now) c.total.result c.div_ceil-half.result c.select.result taken bag whole (omega arith) chosen in

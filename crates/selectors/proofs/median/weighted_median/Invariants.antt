@@ -1,6 +1,6 @@
 use Rattle.std.proofs.Common.{◌≡◌, ℕ}
 use Rattle.selectors.specs.Entries.{weigh}
-use Rattle.selectors.specs.Median.{Taken}
+use Rattle.selectors.specs.Median.{AllPut}
 use Rattle.selectors.proofs.median.weighted_median.Given as goal
 
 abbrev pub invariant-loop-index : goal.invariant-loop-index
@@ -9,4 +9,4 @@ invariant-loop-index g l =
     s.ordered l.selector
     × (s.range l.selector ≡ s.range l.initial.selector)
     × ((c : ℕ) → s.weight l.selector c ≡ weigh l.entries l.index-counter c)
-    × Taken l.entries (s.range l.initial.selector) l.index-counter
+    × AllPut l.entries (s.range l.initial.selector) l.index-counter
