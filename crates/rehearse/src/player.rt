@@ -41,8 +41,7 @@ impl<T: Rows, S: Selector> Model for Player<T, S> {
       own = p.own;
     } };
 
-    ghost invariant = { λ p. InOrder T.kind S.range S.ordered p.card
-        × S.ordered p.own };
+    ghost invariant = { λ p. InOrder T.kind S.range S.ordered p.card × S.ordered p.own };
 }
 
 /// How many rows the memory has and how many plane 0 has; none where a number is outside its
@@ -170,8 +169,7 @@ impl<T: Rows, S: Selector> Player<T, S> {
 
     /// Tells a piece of the finished card.
     pub fn row(&self, heap: Global, x: usize, y: usize, n: usize) -> Result<Answer, Fault>
-        ensures { AnswersRow T.kind T.Rows.scripted
-            (stands S.weight self.now) x y n result }
+        ensures { AnswersRow T.kind T.Rows.scripted (stands S.weight self.now) x y n result }
     {
         let rows = self.card.row(self.memory.as_slice(), x, y, n)?;
         Ok(Answer::Rows(rows_shown::<T>(heap, rows)?))
@@ -193,8 +191,7 @@ impl<T: Rows, S: Selector> Player<T, S> {
 
     /// Tells raw minus finished; not read where the kind has no residues.
     pub fn residue(&self, heap: Global) -> Result<Answer, Fault>
-        ensures { AnswersResidue T.Rows.scripted
-            (stands S.weight self.now) self.now.area result }
+        ensures { AnswersResidue T.Rows.scripted (stands S.weight self.now) self.now.area result }
     {
         let mut reliefs = vec![in heap; 0i16; self.area]?;
         T::residue(&self.card, self.memory.as_slice(), reliefs.as_mut_slice())?;
@@ -224,8 +221,7 @@ impl<T: Rows, S: Selector> Player<T, S> {
 
     /// Makes the call on the program's own selector.
     pub fn ranks(&mut self, call: Call) -> Result<Answer, Fault>
-        ensures answer { Ranks (S.weight self.old.own) (S.range self.old.own)
-            call result }
+        ensures answer { Ranks (S.weight self.old.own) (S.range self.old.own) call result }
         ensures kept { (self.new.card ≡ self.old.card) × (self.new.memory ≡ self.old.memory)
             × (self.new.area ≡ self.old.area) }
         ensures weights { (c : ℕ) → S.weight self.new.own c

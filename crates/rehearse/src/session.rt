@@ -91,8 +91,7 @@ fn play<T: Rows, S: Selector>(
     workspace: &mut Workspace,
     words: &[&str],
 ) -> Line
-    ensures { Played T.kind T.Rows.scripted T.Row.Default.is_default
-        S.weight S.range
+    ensures { Played T.kind T.Rows.scripted T.Row.Default.is_default S.weight S.range
         words.now player.old workspace.old result player.new workspace.new }
 {
     let [name, rest @ ..] = words else {
@@ -118,9 +117,9 @@ fn play_line<T: Rows, S: Selector>(
     rehearsal: &mut Rehearsal,
 ) -> Result<Line, AllocError>
     ensures line { IfOk result (λ line. LinePlayed
-        T.kind T.Rows.scripted T.Row.Default.is_default
-        S.weight S.range rehearsal.old.script.line.items
-        player.old rehearsal.old.workspace line player.new rehearsal.new.workspace) }
+        T.kind T.Rows.scripted T.Row.Default.is_default S.weight S.range
+        rehearsal.old.script.line.items player.old rehearsal.old.workspace line
+        player.new rehearsal.new.workspace) }
     ensures unplayed { IfErr result (λ _. (player.new ≡ player.old)
         × (rehearsal.new.workspace ≡ rehearsal.old.workspace)) }
     ensures kept { (rehearsal.new.tally ≡ rehearsal.old.tally)
