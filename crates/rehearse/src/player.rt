@@ -41,8 +41,7 @@ impl<T: Rows, S: Selector> Model for Player<T, S> {
       own = p.own;
     } };
 
-    ghost invariant = { λ p. InOrder T.Tone.kind S.Selector.range S.Selector.ordered p.card
-        × S.Selector.ordered p.own };
+    ghost invariant = { λ p. InOrder T.kind S.range S.ordered p.card × S.ordered p.own };
 }
 
 /// How many rows the memory has and how many plane 0 has; none where a number is outside its
@@ -83,8 +82,8 @@ fn memory_for<R: Copy + Default>(
 impl<T: Rows, S: Selector> Player<T, S> {
     /// A card without a size.
     pub fn new(heap: Global, selector: S, own: S) -> Player<T, S>
-        requires selector { S.Selector.ordered selector }
-        requires own { S.Selector.ordered own }
+        requires selector { S.ordered selector }
+        requires own { S.ordered own }
         ensures card { (result.card.selector ≡ selector) × (notes result.card ≡ None) }
         ensures memory { (result.memory ≡ []) × (result.area ≡ 0) }
         ensures own { result.own ≡ own }
@@ -99,8 +98,8 @@ impl<T: Rows, S: Selector> Player<T, S> {
 
     /// The stale rows of the card.
     pub fn left(&self) -> usize
-        ensures { let state = stands S.Selector.weight self.now in
-            Outcome T.Tone.kind state Left (Number result) state }
+        ensures { let state = stands S.weight self.now in
+            Outcome T.kind state Left (Number result) state }
     {
         self.card.left()
     }
@@ -108,10 +107,10 @@ impl<T: Rows, S: Selector> Player<T, S> {
     /// Opens the card with these rows in plane 0, or zeros where there are none. Rows of another
     /// count are all of the memory, which is then refused unless they fill it.
     pub fn open(&mut self, heap: Global, opening: Opening, words: &[&str]) -> Result<Answer, Fault>
-        ensures outcome { let range = S.Selector.range self.old.card.selector in
-            Opens T.Tone.kind T.Rows.scripted T.Row.Default.is_default range
-            (stands S.Selector.weight self.old) opening words.now result
-            (stands S.Selector.weight self.new) }
+        ensures outcome { let range = S.range self.old.card.selector in
+            Opens T.kind T.Rows.scripted T.Row.Default.is_default range
+            (stands S.weight self.old) opening words.now result
+            (stands S.weight self.new) }
         ensures area { self.new.area ≡ area_after result opening self.old.area }
         ensures own { self.new.own ≡ self.old.own }
     {
@@ -130,8 +129,8 @@ impl<T: Rows, S: Selector> Player<T, S> {
 
     /// Hands a draft over; not read without one.
     pub fn install(&mut self, draft: Option<Draft>) -> Result<Answer, Fault>
-        ensures outcome { let before = stands S.Selector.weight self.old in
-            HandsOver T.Tone.kind before draft result (stands S.Selector.weight self.new) }
+        ensures outcome { let before = stands S.weight self.old in
+            HandsOver T.kind before draft result (stands S.weight self.new) }
         ensures kept { (self.new.area ≡ self.old.area) × (self.new.own ≡ self.old.own) }
     {
         let draft = draft.ok_or(Fault::Unknown)?;
@@ -141,8 +140,8 @@ impl<T: Rows, S: Selector> Player<T, S> {
 
     /// Writes these rows into a rectangle.
     pub fn patch(&mut self, heap: Global, patch: Patch, words: &[&str]) -> Result<Answer, Fault>
-        ensures outcome { Patches T.Tone.kind T.Rows.scripted (stands S.Selector.weight self.old)
-            patch words.now result (stands S.Selector.weight self.new) }
+        ensures outcome { Patches T.kind T.Rows.scripted (stands S.weight self.old)
+            patch words.now result (stands S.weight self.new) }
         ensures kept { (self.new.area ≡ self.old.area) × (self.new.own ≡ self.old.own) }
     {
         let rows = rows_read::<T>(heap, words)?;
@@ -160,8 +159,8 @@ impl<T: Rows, S: Selector> Player<T, S> {
 
     /// Redoes rows, at most as many as the budget.
     pub fn work(&mut self, budget: usize) -> Result<Answer, Fault>
-        ensures outcome { let before = stands S.Selector.weight self.old in
-            Works T.Tone.kind before budget result (stands S.Selector.weight self.new) }
+        ensures outcome { let before = stands S.weight self.old in
+            Works T.kind before budget result (stands S.weight self.new) }
         ensures kept { (self.new.area ≡ self.old.area) × (self.new.own ≡ self.old.own) }
     {
         let rows = self.card.work(self.memory.as_mut_slice(), budget)?;
@@ -170,8 +169,7 @@ impl<T: Rows, S: Selector> Player<T, S> {
 
     /// Tells a piece of the finished card.
     pub fn row(&self, heap: Global, x: usize, y: usize, n: usize) -> Result<Answer, Fault>
-        ensures { AnswersRow T.Tone.kind T.Rows.scripted
-            (stands S.Selector.weight self.now) x y n result }
+        ensures { AnswersRow T.kind T.Rows.scripted (stands S.weight self.now) x y n result }
     {
         let rows = self.card.row(self.memory.as_slice(), x, y, n)?;
         Ok(Answer::Rows(rows_shown::<T>(heap, rows)?))
@@ -179,22 +177,21 @@ impl<T: Rows, S: Selector> Player<T, S> {
 
     /// Tells the stale rows.
     pub fn answer_left(&self) -> Answer
-        ensures { AnswersLeft T.Tone.kind (stands S.Selector.weight self.now) result }
+        ensures { AnswersLeft T.kind (stands S.weight self.now) result }
     {
         Answer::Number(self.card.left() as u64)
     }
 
     /// Tells the next row.
     pub fn answer_due(&self) -> Answer
-        ensures { AnswersDue T.Tone.kind (stands S.Selector.weight self.now) result }
+        ensures { AnswersDue T.kind (stands S.weight self.now) result }
     {
         Answer::Due(self.card.due())
     }
 
     /// Tells raw minus finished; not read where the kind has no residues.
     pub fn residue(&self, heap: Global) -> Result<Answer, Fault>
-        ensures { AnswersResidue T.Rows.scripted
-            (stands S.Selector.weight self.now) self.now.area result }
+        ensures { AnswersResidue T.Rows.scripted (stands S.weight self.now) self.now.area result }
     {
         let mut reliefs = vec![in heap; 0i16; self.area]?;
         T::residue(&self.card, self.memory.as_slice(), reliefs.as_mut_slice())?;
@@ -203,9 +200,9 @@ impl<T: Rows, S: Selector> Player<T, S> {
 
     /// Patches the card with a file; unreadable without one, not read where the kind has no files.
     pub fn load(&mut self, x: usize, y: usize, file: Option<Vec<u8>>) -> Result<Answer, Fault>
-        ensures outcome { LoadsFile T.Rows.scripted (stands S.Selector.weight self.old)
+        ensures outcome { LoadsFile T.Rows.scripted (stands S.weight self.old)
             x y (option_map (λ bytes. bytes.items) file) result
-            (stands S.Selector.weight self.new) }
+            (stands S.weight self.new) }
         ensures kept { (self.new.area ≡ self.old.area) × (self.new.own ≡ self.old.own) }
     {
         let bytes = file.as_ref().map(|bytes| bytes.as_slice());
@@ -215,7 +212,7 @@ impl<T: Rows, S: Selector> Player<T, S> {
 
     /// Makes a tone of these parts, and tells its code.
     pub fn tone(&self, words: &[&str]) -> Result<Answer, Fault>
-        ensures { AnswersTone T.Tone.kind T.Rows.scripted words.now result }
+        ensures { AnswersTone T.kind T.Rows.scripted words.now result }
     {
         let row = T::read(words).ok_or(Fault::Unknown)?;
         let tone = T::make(row)?;
@@ -224,12 +221,11 @@ impl<T: Rows, S: Selector> Player<T, S> {
 
     /// Makes the call on the program's own selector.
     pub fn ranks(&mut self, call: Call) -> Result<Answer, Fault>
-        ensures answer { Ranks (S.Selector.weight self.old.own) (S.Selector.range self.old.own)
-            call result }
+        ensures answer { Ranks (S.weight self.old.own) (S.range self.old.own) call result }
         ensures kept { (self.new.card ≡ self.old.card) × (self.new.memory ≡ self.old.memory)
             × (self.new.area ≡ self.old.area) }
-        ensures weights { (c : ℕ) → S.Selector.weight self.new.own c
-            ≡ bag_after (S.Selector.weight self.old.own) (S.Selector.range self.old.own) call c }
+        ensures weights { (c : ℕ) → S.weight self.new.own c
+            ≡ bag_after (S.weight self.old.own) (S.range self.old.own) call c }
     {
         let reply = play(&mut self.own, call)?;
         Ok(reply.into())

@@ -61,10 +61,10 @@ fn call<T: Rows, S: Selector>(
     workspace: &mut Workspace,
     call: Call,
 ) -> Result<Answer, Fault>
-    ensures made { let range = S.Selector.range player.old.card.selector in
-        Made T.Tone.kind T.Rows.scripted T.Row.Default.is_default range
-        (stands S.Selector.weight player.old) player.old.area workspace.old.draft call.entry result
-        (stands S.Selector.weight player.new) player.new.area }
+    ensures made { let range = S.range player.old.card.selector in
+        Made T.kind T.Rows.scripted T.Row.Default.is_default range
+        (stands S.weight player.old) player.old.area workspace.old.draft call.entry result
+        (stands S.weight player.new) player.new.area }
     ensures own { player.new.own ≡ player.old.own }
     ensures workspace { (workspace.new.element ≡ workspace.old.element)
         × (workspace.new.draft ≡ draft_after call.entry workspace.old.draft) }
@@ -91,8 +91,7 @@ fn play<T: Rows, S: Selector>(
     workspace: &mut Workspace,
     words: &[&str],
 ) -> Line
-    ensures { Played T.Tone.kind T.Rows.scripted T.Row.Default.is_default
-        S.Selector.weight S.Selector.range
+    ensures { Played T.kind T.Rows.scripted T.Row.Default.is_default S.weight S.range
         words.now player.old workspace.old result player.new workspace.new }
 {
     let [name, rest @ ..] = words else {
@@ -118,9 +117,9 @@ fn play_line<T: Rows, S: Selector>(
     rehearsal: &mut Rehearsal,
 ) -> Result<Line, AllocError>
     ensures line { IfOk result (λ line. LinePlayed
-        T.Tone.kind T.Rows.scripted T.Row.Default.is_default
-        S.Selector.weight S.Selector.range rehearsal.old.script.line.items
-        player.old rehearsal.old.workspace line player.new rehearsal.new.workspace) }
+        T.kind T.Rows.scripted T.Row.Default.is_default S.weight S.range
+        rehearsal.old.script.line.items player.old rehearsal.old.workspace line
+        player.new rehearsal.new.workspace) }
     ensures unplayed { IfErr result (λ _. (player.new ≡ player.old)
         × (rehearsal.new.workspace ≡ rehearsal.old.workspace)) }
     ensures kept { (rehearsal.new.tally ≡ rehearsal.old.tally)
@@ -144,8 +143,8 @@ pub fn session<T: Rows, S: Selector + Drop>(
     own: S,
     rehearsal: &mut Rehearsal,
 ) -> io::Result<ControlFlow<usize, Choice>>
-    requires selector { S.Selector.ordered selector }
-    requires own { S.Selector.ordered own }
+    requires selector { S.ordered selector }
+    requires own { S.ordered own }
 {
     let mut player = Player::<T, S>::new(rt.alloc(), selector, own);
     // As many lines as there are: each loop is proved to end.

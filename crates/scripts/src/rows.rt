@@ -38,8 +38,8 @@ pub trait Rows: Tone<Row: Default> {
 
     /// The tone of these parts; refused outside the limits.
     fn make(row: Self::Row) -> Result<Self, ToneRefusal>
-        ensures { MatchResult result (λ t. Self.Tone.kind.row t ≡ row)
-            (λ _. (t : Self) → Self.Tone.kind.row t ≢ row) };
+        ensures { MatchResult result (λ t. Self.kind.row t ≡ row)
+            (λ _. (t : Self) → Self.kind.row t ≢ row) };
 
     /// Writes raw minus finished of a card into the reliefs; not read where the kind has no residues.
     fn residue<S: Selector>(
@@ -57,11 +57,11 @@ pub trait Rows: Tone<Row: Default> {
         y: usize,
         file: Option<&[u8]>,
     ) -> Result<(), Fault>
-        ensures outcome { let before = state_of S.Selector.weight card.old memory.old in
+        ensures outcome { let before = state_of S.weight card.old memory.old in
             scripted.loads before x y (option_map (λ bytes. bytes.now) file.entry) result
-            (state_of S.Selector.weight card.new memory.new) }
-        ensures in_order { InOrder Self.Tone.kind S.Selector.range S.Selector.ordered card.old
-            → InOrder Self.Tone.kind S.Selector.range S.Selector.ordered card.new };
+            (state_of S.weight card.new memory.new) }
+        ensures in_order { InOrder Self.kind S.range S.ordered card.old
+            → InOrder Self.kind S.range S.ordered card.new };
 
     /// Words that write a row are as many as it has numbers, at least one.
     ghost sized: { HasParts scripted.written scripted.count };
