@@ -1,5 +1,5 @@
 -- What is printed of a file. Assumes nothing.
-use Rattle.std.specs.Prelude.{◌≡◌, ℕ, if◌then◌else◌, List, length, codes, nat_lt}
+use Rattle.std.specs.Prelude.{◌≡◌, ℕ, cond, List, length, codes, nat_lt}
 use Rattle.pgm.specs.Reading.{Reading, Reads}
 use Rattle.pgm.specs.Reading.Reading.{Shows, Faulty}
 use Rattle.pgm.specs.Plain.{plain, refused}
@@ -14,6 +14,6 @@ Text (Faulty f) bs = bs ≡ refused f
 -- a file of more than 16,640 bytes is too large, whatever it holds; any other is printed as it reads
 abbrev pub Printed : List ℕ → List ℕ → Type 0
 Printed file bs =
-    if nat_lt 16640 (length file)
-    then (bs ≡ codes "too large\n")
-    else ((x : Reading) × Reads file x × Text x bs)
+    cond (nat_lt 16640 (length file))
+    (bs ≡ codes "too large\n")
+    ((x : Reading) × Reads file x × Text x bs)

@@ -42,7 +42,7 @@ impl Default for Element {
 impl Element {
     ghost use Rattle.recipes.specs.Edits.{amount_refusal, order_refusal, place_refusal};
     ghost use Rattle.recipes.specs.Lawful.{lawful_order};
-    ghost use Rattle.recipes.specs.Placed.{placed};
+    ghost use Rattle.recipes.specs.Placed.{placed, order_of};
     ghost use Rattle.recipes.specs.Places.{amended, limited, origin, place_of, soft, stands_at, taken, IsLimited};
     ghost use Rattle.recipes.specs.Reaches.{reach, IsGreatest};
     ghost use Rattle.recipes.specs.Recipes.{places_within};

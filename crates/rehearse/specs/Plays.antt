@@ -22,8 +22,8 @@ use Rattle.scripts.specs.declared.answers.Answer.{Answer}
 use Rattle.scripts.specs.declared.answers.Answer.TheVariants as answer
 use Rattle.scripts.specs.declared.answers.Fault.{Fault}
 use Rattle.scripts.specs.declared.answers.Fault.TheVariants.{Unknown, Card, Tone, Memory}
-use Rattle.scripts.specs.declared.commands.Call.{Call as Asked}
-use Rattle.scripts.specs.declared.commands.Call.TheVariants as asked
+use Rattle.scripts.specs.declared.commands.CardCall.{CardCall as Asked}
+use Rattle.scripts.specs.declared.commands.CardCall.TheVariants as asked
 use Rattle.scripts.specs.declared.commands.Opening.{Opening}
 use Rattle.scripts.specs.declared.commands.Patch.{Patch as Rectangle}
 use Rattle.rehearse.specs.Rooms.{room_of}

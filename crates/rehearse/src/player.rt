@@ -17,7 +17,7 @@ use planes::size::Size;
 use recipes::draft::Draft;
 use scripts::{Answer, Fault, Opening, Patch, Rows, rows_read, rows_shown};
 use selectors::Selector;
-use selectors::calls::{Call, play};
+use selectors::calls::{SelectorCall, play};
 use std::alloc::{AllocError, Global};
 use std::marker::Model;
 use tones::{Relief, Tone};
@@ -220,7 +220,7 @@ impl<T: Rows, S: Selector> Player<T, S> {
     }
 
     /// Makes the call on the program's own selector.
-    pub fn ranks(&mut self, call: Call) -> Result<Answer, Fault>
+    pub fn ranks(&mut self, call: SelectorCall) -> Result<Answer, Fault>
         ensures answer { Ranks (S.weight self.old.own) (S.range self.old.own) call result }
         ensures kept { (self.new.card ≡ self.old.card) × (self.new.memory ≡ self.old.memory)
             × (self.new.area ≡ self.old.area) }

@@ -8,7 +8,7 @@ ghost use Rattle.rehearse.specs.Sessions.{LinePlayed, Played};
 
 use crate::player::Player;
 use crate::script::{Script, bytes_of, words_of};
-use scripts::{Answer, Call, Choice, Command, Fault, Rows, Tally, Workspace, read_command};
+use scripts::{Answer, CardCall, Choice, Command, Fault, Rows, Tally, Workspace, read_command};
 use selectors::Selector;
 use std::alloc::AllocError;
 use std::io;
@@ -59,7 +59,7 @@ fn call<T: Rows, S: Selector>(
     rt: &HostRuntime,
     player: &mut Player<T, S>,
     workspace: &mut Workspace,
-    call: Call,
+    call: CardCall,
 ) -> Result<Answer, Fault>
     ensures made { let range = S.range player.old.card.selector in
         Made T.kind T.Rows.scripted T.Row.Default.is_default range
@@ -71,16 +71,16 @@ fn call<T: Rows, S: Selector>(
 {
     let heap = rt.alloc();
     match call {
-        Call::Open(opening, rows) => player.open(heap, opening, rows),
-        Call::Install => player.install(workspace.hand_over()),
-        Call::Patch(patch, rows) => player.patch(heap, patch, rows),
-        Call::Work(budget) => player.work(budget),
-        Call::Row(x, y, n) => player.row(heap, x, y, n),
-        Call::Left => Ok(player.answer_left()),
-        Call::Due => Ok(player.answer_due()),
-        Call::Residue => player.residue(heap),
-        Call::Load(x, y, path) => player.load(x, y, bytes_of(rt, path)),
-        Call::Tone(parts) => player.tone(parts),
+        CardCall::Open(opening, rows) => player.open(heap, opening, rows),
+        CardCall::Install => player.install(workspace.hand_over()),
+        CardCall::Patch(patch, rows) => player.patch(heap, patch, rows),
+        CardCall::Work(budget) => player.work(budget),
+        CardCall::Row(x, y, n) => player.row(heap, x, y, n),
+        CardCall::Left => Ok(player.answer_left()),
+        CardCall::Due => Ok(player.answer_due()),
+        CardCall::Residue => player.residue(heap),
+        CardCall::Load(x, y, path) => player.load(x, y, bytes_of(rt, path)),
+        CardCall::Tone(parts) => player.tone(parts),
     }
 }
 

@@ -12,8 +12,8 @@ use Rattle.scripts.specs.declared.commands.Edit.{Edit}
 use Rattle.scripts.specs.declared.commands.Edit.TheVariants.{Element, Place, Amount, Order, Standard}
 use Rattle.scripts.specs.declared.commands.Drafting.{Drafting}
 use Rattle.scripts.specs.declared.commands.Drafting.TheVariants.{Begin, Step}
-use Rattle.scripts.specs.declared.commands.Call.{Call}
-use Rattle.scripts.specs.declared.commands.Call.TheVariants.{Open, Install, Patch, Work, Row, Left, Due, Residue, Load, Tone}
+use Rattle.scripts.specs.declared.commands.CardCall.{CardCall}
+use Rattle.scripts.specs.declared.commands.CardCall.TheVariants.{Open, Install, Patch, Work, Row, Left, Due, Residue, Load, Tone}
 use Rattle.scripts.specs.declared.commands.Command.{Command}
 use Rattle.scripts.specs.declared.commands.Command.TheVariants.{Choose, OnElement, OnDraft, OnCard, OnSelector}
 
@@ -48,7 +48,7 @@ Drafts name ws (Step l) = Named name ws (codes "step") 1 × IsScalar l × (word 
 
 -- a call on a card: the words of the rows of open and patch, of the parts of a tone, and the path
 -- of a file come last
-abbrev pub Calls : List ℕ → Rest → Call → Type 0
+abbrev pub Calls : List ℕ → Rest → CardCall → Type 0
 Calls name ws (Open o rows) = Begins name ws (codes "open") 3
     × Natural 64 (word ws 0) o.width × Natural 64 (word ws 1) o.height
     × Natural 64 (word ws 2) o.stages × (rows.now ≡ drop 3 ws)

@@ -86,7 +86,7 @@ pub struct Patch {
 
 /// A call on the present card.
 #[derive(Clone, Copy)]
-pub enum Call<'a> {
+pub enum CardCall<'a> {
     /// The size, and the words of the rows of plane 0.
     Open(Opening, &'a [&'a str]),
     /// The present draft is handed over.
@@ -112,6 +112,6 @@ pub enum Command<'a> {
     Choose(Choice),
     OnElement(Edit),
     OnDraft(Drafting),
-    OnCard(Call<'a>),
+    OnCard(CardCall<'a>),
     OnSelector(SelectorCall),
 }

@@ -3,7 +3,7 @@
 ghost use Rattle.scripts.specs.Lines.{Calls, Chooses, Drafts, Edits, Ranks, Says};
 ghost use Rattle.scripts.specs.Words.{ReadsAll};
 
-use crate::commands::{Call, Choice, Command, Drafting, Edit, Opening, Patch};
+use crate::commands::{CardCall, Choice, Command, Drafting, Edit, Opening, Patch};
 use crate::words::number;
 use selectors::calls::SelectorCall;
 
@@ -66,7 +66,7 @@ pub fn read_selector_call(name: &str, rest: &[&str]) -> Option<SelectorCall>
 }
 
 /// The call on a card.
-pub fn read_call<'a>(name: &str, rest: &'a [&'a str]) -> Option<Call<'a>>
+pub fn read_call<'a>(name: &str, rest: &'a [&'a str]) -> Option<CardCall<'a>>
     ensures { ReadsAll (Calls name.now rest.now) result }
 {
     match (name, rest) {
@@ -76,9 +76,9 @@ pub fn read_call<'a>(name: &str, rest: &'a [&'a str]) -> Option<Call<'a>>
                 height: number(height)?,
                 stages: number(stages)?,
             };
-            Some(Call::Open(opening, rows))
+            Some(CardCall::Open(opening, rows))
         }
-        ("install", []) => Some(Call::Install),
+        ("install", []) => Some(CardCall::Install),
         ("patch", [x, y, width, height, rows @ ..]) => {
             let patch = Patch {
                 x: number(x)?,
@@ -86,15 +86,15 @@ pub fn read_call<'a>(name: &str, rest: &'a [&'a str]) -> Option<Call<'a>>
                 width: number(width)?,
                 height: number(height)?,
             };
-            Some(Call::Patch(patch, rows))
+            Some(CardCall::Patch(patch, rows))
         }
-        ("work", [budget]) => Some(Call::Work(number(budget)?)),
-        ("row", [x, y, n]) => Some(Call::Row(number(x)?, number(y)?, number(n)?)),
-        ("left", []) => Some(Call::Left),
-        ("due", []) => Some(Call::Due),
-        ("residue", []) => Some(Call::Residue),
-        ("load", [x, y, path]) => Some(Call::Load(number(x)?, number(y)?, path)),
-        ("tone", parts) => Some(Call::Tone(parts)),
+        ("work", [budget]) => Some(CardCall::Work(number(budget)?)),
+        ("row", [x, y, n]) => Some(CardCall::Row(number(x)?, number(y)?, number(n)?)),
+        ("left", []) => Some(CardCall::Left),
+        ("due", []) => Some(CardCall::Due),
+        ("residue", []) => Some(CardCall::Residue),
+        ("load", [x, y, path]) => Some(CardCall::Load(number(x)?, number(y)?, path)),
+        ("tone", parts) => Some(CardCall::Tone(parts)),
         _ => None,
     }
 }

@@ -1,6 +1,6 @@
 use Rattle.std.proofs.Common.{rules}
 use Rattle.scripts.specs.Lines.{Calls}
-use Rattle.scripts.specs.declared.commands.Call.TheVariants.{Open, Install, Patch, Work, Row, Left, Due, Residue, Load, Tone}
+use Rattle.scripts.specs.declared.commands.CardCall.TheVariants.{Open, Install, Patch, Work, Row, Left, Due, Residue, Load, Tone}
 use Rattle.scripts.proofs.reading.read_call.Goals as goal
 use Rattle.scripts.proofs.reading.read_call.Goals.{in_default-via-in-open-0+then-rest-lt3, in_default-via-in-install-0+else-this-lt1, in_default-via-in-patch-0+then-this-lt4, in_default-via-in-work-0+then-this-lt1-2, in_default-via-in-work-0+else-this-lt1-2+else-this-lt2, in_default-via-in-row-0+then-this-lt3, in_default-via-in-row-0+else-this-lt3+else-this-lt4-2, in_default-via-in-left-0+else-this-lt1-3, in_default-via-in-due-0+else-this-lt1-4, in_default-via-in-residue-0+else-this-lt1-5, in_default-via-in-load-0+then-this-lt3-2, in_default-via-in-load-0+else-this-lt3-2+else-this-lt4-3, in_default-via-in_default}
 
