@@ -1,7 +1,6 @@
 //! A card from its opening to a corner that is lettered again: README.md quotes this text.
 
-use calls::Refusal;
-use cards::Card;
+use cards::{Card, Refusal};
 use recipes::{Draft, Element};
 use selectors::Histogram;
 use std::test::Fail;

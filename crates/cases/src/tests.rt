@@ -1,7 +1,6 @@
 //! Examples.
 
-use calls::Refusal;
-use cards::{AnyRefusal, Card};
+use cards::{AnyRefusal, Card, Refusal};
 use recipes::{Draft, Element, Part};
 use selectors::{Gate, Histogram, Selector};
 use std::test::Fail;
