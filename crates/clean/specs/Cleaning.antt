@@ -1,4 +1,5 @@
 -- A picture cleaned: eroded by the cross of order 2. Assumes nothing.
+use Rattle.selectors.specs.Weights.{histogram_weight}
 use Rattle.std.specs.Prelude.{◌≡◌, ℕ, ◌<◌, List, length, slice_index}
 use Rattle.calls.specs.Calls.{State, Answer}
 use Rattle.calls.specs.Calls.Answer.{Piece}
@@ -52,7 +53,7 @@ pub record Eroded (s : Size) (samples tones : List ℕ) : Type 0 where
 
 -- a grey card with a histogram, and the memory that is lent to it
 abbrev pub state : Card Grey Histogram → List ℕ → State ℕ
-state card m = state_of (λ h c. slice_index h.weights c) card m
+state card m = state_of histogram_weight card m
 
 -- such a card is ready for work
 abbrev pub Ready : Card Grey Histogram → Type 0

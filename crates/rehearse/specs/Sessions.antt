@@ -1,4 +1,5 @@
 -- What a line of words does to a player and a workspace, and what it is answered. Assumes nothing.
+use Rattle.cards.specs.Meanings.{selector_of}
 use Rattle.std.specs.Prelude.{◌≡◌, ◌≢◌, ◌⊎◌, ℕ, List, [], ◌∷◌, false, true, Err, Result}
 use Rattle.std.specs.Borrow.{Bor}
 use Rattle.tones.specs.Kind.{Kind}
@@ -48,7 +49,7 @@ module _ {T R S : Type 0} (K : Kind T R) (W : Scripted R) (Zero : R → Type 0)
       × ((c : ℕ) → weight q.own c ≡ bag_after (weight p.own) (range p.own) call c)
   Commanded p d (OnCard call) r q e = (q.own ≡ p.own)
       × (e.element ≡ d.element) × (e.draft ≡ draft_after call d.draft)
-      × Made K W Zero (range p.card.selector) (stands weight p) p.area d.draft call r
+      × Made K W Zero (range (selector_of p.card)) (stands weight p) p.area d.draft call r
       (stands weight q) q.area
 
   -- a line without words is passed over; one with words asks for another card, or is answered: its

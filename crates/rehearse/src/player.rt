@@ -5,7 +5,7 @@ ghost use Rattle.std.specs.Prelude.{◌≡◌, ℕ, [], IfOk, None};
 ghost use Rattle.calls.specs.Calls.Answer.{Number};
 ghost use Rattle.calls.specs.Calls.Call.{Left};
 ghost use Rattle.calls.specs.Outcomes.{Outcome};
-ghost use Rattle.cards.specs.Meanings.{InOrder, notes};
+ghost use Rattle.cards.specs.Meanings.{InOrder, notes, selector_of};
 ghost use Rattle.rehearse.specs.Seen.{Seen, stands};
 ghost use Rattle.rehearse.specs.Plays.{AnswersDue, AnswersLeft, AnswersResidue, AnswersRow, AnswersTone, HandsOver, LoadsFile, Opens, Patches, Ranks, Works, area_after, memory_for};
 ghost use Rattle.rehearse.specs.Rooms.{room_of};
@@ -84,7 +84,7 @@ impl<T: Rows, S: Selector> Player<T, S> {
     pub fn new(heap: Global, selector: S, own: S) -> Player<T, S>
         requires selector { S.ordered selector }
         requires own { S.ordered own }
-        ensures card { (result.card.selector ≡ selector) × (notes result.card ≡ None) }
+        ensures card { (selector_of result.card ≡ selector) × (notes result.card ≡ None) }
         ensures memory { (result.memory ≡ []) × (result.area ≡ 0) }
         ensures own { result.own ≡ own }
     {
@@ -107,7 +107,7 @@ impl<T: Rows, S: Selector> Player<T, S> {
     /// Opens the card with these rows in plane 0, or zeros where there are none. Rows of another
     /// count are all of the memory, which is then refused unless they fill it.
     pub fn open(&mut self, heap: Global, opening: Opening, words: &[&str]) -> Result<Answer, Fault>
-        ensures outcome { let range = S.range self.old.card.selector in
+        ensures outcome { let range = S.range (selector_of self.old.card) in
             Opens T.kind T.Rows.scripted T.Row.Default.is_default range
             (stands S.weight self.old) opening words.now result
             (stands S.weight self.new) }

@@ -1,5 +1,6 @@
 //! Plays the lines of a script on one card, until another is asked for.
 
+ghost use Rattle.cards.specs.Meanings.{selector_of};
 ghost use Rattle.std.specs.Prelude.{◌≡◌, IfErr, IfOk};
 ghost use Rattle.rehearse.specs.Seen.{stands};
 ghost use Rattle.scripts.specs.Answers.{first_after, played_after, refused_after, unknown_after};
@@ -61,7 +62,7 @@ fn call<T: Rows, S: Selector>(
     workspace: &mut Workspace,
     call: CardCall,
 ) -> Result<Answer, Fault>
-    ensures made { let range = S.range player.old.card.selector in
+    ensures made { let range = S.range (selector_of player.old.card) in
         Made T.kind T.Rows.scripted T.Row.Default.is_default range
         (stands S.weight player.old) player.old.area workspace.old.draft call.entry result
         (stands S.weight player.new) player.new.area }
