@@ -29,4 +29,5 @@ pub record Stands (s : OpenCard) (stage : ℕ) (rect : Rect) : Type 0 where
   pub apart :
       start (frame_of s.areas).size (stage - 1) + area (frame_of s.areas).size
       ≤ start (frame_of s.areas).size stage
-  pub within : start (frame_of s.areas).size stage + area (frame_of s.areas).size ≤ room (notes_of s)
+  pub within :
+      start (frame_of s.areas).size stage + area (frame_of s.areas).size ≤ room (notes_of s)

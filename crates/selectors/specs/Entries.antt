@@ -26,7 +26,9 @@ Weighty es n = (i : ℕ) → i < n → 0 < (slice_index_or es i blank).weight
 
 -- the codes of the first n entries rise
 abbrev pub Rising : List Entry → ℕ → Type 0
-Rising es n = (i j : ℕ) → i < j → j < n → (slice_index_or es i blank).code < (slice_index_or es j blank).code
+Rising es n =
+    (i j : ℕ) → i < j → j < n
+    → (slice_index_or es i blank).code < (slice_index_or es j blank).code
 
 -- an entry's weight where its code begins with the bits p, down to the bit k
 abbrev pub under : Entry → ℕ → ℕ → ℕ
@@ -35,7 +37,8 @@ under e k p = if e.code / 2 ^ k == p then e.weight else 0
 -- the place of an entry with the code c, or a place where one may come, since there is none
 abbrev pub Found : List Entry → ℕ → Result ℕ ℕ → Type 0
 Found es c (Ok i) = (i < length es) × ((slice_index_or es i blank).code ≡ c)
-Found es c (Err at) = (at ≤ length es) × ((i : ℕ) → i < length es → (slice_index_or es i blank).code ≢ c)
+Found es c (Err at) =
+    (at ≤ length es) × ((i : ℕ) → i < length es → (slice_index_or es i blank).code ≢ c)
 
 -- the place of an entry with the code c, or the place between smaller and larger codes where it
 -- belongs

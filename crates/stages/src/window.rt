@@ -93,7 +93,8 @@ impl Window {
     /// dilation the rank total - k + 1.
     pub(crate) fn rank(&self, total: u32) -> u32
         requires { total < 2 ^ 31 }
-        ensures { result ≡ rank_of self.now.stage.operation (order_of self.now.stage.element) total }
+        ensures { let stage = self.now.stage in
+            result ≡ rank_of stage.operation (order_of stage.element) total }
     {
         let order = self.stage.element.order_index();
         match self.stage.operation {

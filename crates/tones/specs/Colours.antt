@@ -44,7 +44,8 @@ colours = record {
   count = 23592960;
   span = 0;
   code = code;
-  tone = λ c. (if nat_lt c 23592960 then colour (c % 360) (255 - c / 360 % 256) (c / 360 / 256) else top);
+  tone = λ c. (if nat_lt c 23592960
+      then colour (c % 360) (255 - c / 360 % 256) (c / 360 / 256) else top);
   lowered = λ t _. t;
   row = λ t. parts t.hue t.saturation t.brightness;
   counted = λ r. (if is_colour_row r then colour r.hue r.saturation r.brightness else top);
