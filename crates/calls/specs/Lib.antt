@@ -2,6 +2,7 @@ pub mod Refusals
 pub mod Calls
 pub mod Outcomes
 pub mod Opening
+pub mod Finished
 pub mod Residue
 pub mod History
 pub mod Runs

@@ -2,7 +2,7 @@
 use Rattle.std.specs.Prelude.{ℕ, List, ◌++◌, codes}
 use Rattle.std.specs.Fmt.{decimal}
 use Rattle.calls.specs.declared.refusals.Refusal.{Refusal}
-use Rattle.calls.specs.declared.refusals.Refusal.TheVariants.{Size, Memory, Range, Unopened, Outside, Count, TooFewSteps, TooManyStages, Amount, Stale}
+use Rattle.calls.specs.declared.refusals.Refusal.TheVariants.{Size, Memory, Range, Unopened, Outside, Count, TooFewSteps, TooManyStages, Amount, Stale, NoRoom}
 
 abbrev pub refusal_number : Refusal → ℕ
 refusal_number Size = 13
@@ -15,6 +15,7 @@ refusal_number TooFewSteps = 19
 refusal_number TooManyStages = 20
 refusal_number Amount = 21
 refusal_number (Stale c) = 22
+refusal_number NoRoom = 24
 
 -- the cause of each refusal
 abbrev pub cause : Refusal → List ℕ
@@ -28,6 +29,7 @@ cause TooFewSteps = codes "fewer steps than declared"
 cause TooManyStages = codes "more stages than the card has room for"
 cause Amount = codes "amount outside the span of the tones"
 cause (Stale c) = codes "stale, first at this column"
+cause NoRoom = codes "fewer bytes than the file has"
 
 -- the number and the cause, and where a piece is stale the first column met
 abbrev pub refusal_text : Refusal → List ℕ

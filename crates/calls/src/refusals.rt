@@ -27,8 +27,11 @@ pub enum Refusal {
     TooManyStages,
     /// An amount is outside the span of the tones.
     Amount,
-    /// The piece meets the last stage's stale area; with the first column met.
+    /// The piece meets the last stage's stale area, with the first column met; of a residue or a file, some
+    /// stage is stale, with column 0.
     Stale(usize),
+    /// The lent bytes are fewer than the file's.
+    NoRoom,
 }
 
 impl Refusal {
@@ -48,6 +51,7 @@ impl Refusal {
             Refusal::TooManyStages => 20,
             Refusal::Amount => 21,
             Refusal::Stale(_) => 22,
+            Refusal::NoRoom => 24,
         }
     }
 
@@ -66,6 +70,7 @@ impl Refusal {
             Refusal::TooManyStages => "more stages than the card has room for",
             Refusal::Amount => "amount outside the span of the tones",
             Refusal::Stale(_) => "stale, first at this column",
+            Refusal::NoRoom => "fewer bytes than the file has",
         }
     }
 }

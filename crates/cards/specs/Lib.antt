@@ -2,3 +2,4 @@ pub mod Meanings
 pub mod Loading
 pub mod Refused
 pub mod OpenCards
+pub mod Writing

@@ -230,9 +230,10 @@ impl<T: Tone, S: Selector> Card<T, S> {
 }
 
 impl<S: Selector> Card<Grey, S> {
-    ghost use Rattle.calls.specs.Calls.{done};
+    ghost use Rattle.calls.specs.Calls.{done, number};
     ghost use Rattle.calls.specs.Residue.{residue_after, residue_answer};
     ghost use Rattle.cards.specs.Loading.{Loads};
+    ghost use Rattle.cards.specs.Writing.{write_after, write_answer};
     ghost use Rattle.cards.specs.Meanings.{StaysInOrder, notes, selector_of, state_of};
     ghost use Rattle.tones.specs.Greys.{greys};
 
@@ -268,11 +269,26 @@ impl<S: Selector> Card<Grey, S> {
         if reliefs.len() != opened.frame().area() {
             return Err(Refusal::Count);
         }
-        if opened.rows_left() > 0 {
-            return Err(Refusal::Stale(0));
-        }
+        opened.settled()?;
         subtract(memory, opened.finished(), reliefs);
         Ok(())
+    }
+
+    /// Writes the finished card as a raw PGM file (`P5`, maxval 255) into the first of the lent bytes, and answers
+    /// how many it takes: at most 262,160. The bytes after them stay. Refused without a size (16), with memory of
+    /// another length (14), with column 0 while any stage is stale (22), and where fewer bytes are lent (24).
+    pub fn write(&self, memory: &[u8], file: &mut [u8]) -> Result<usize, Refusal>
+        ensures answer { number result
+            ≡ write_answer (notes self.now) memory.now (length file.old) }
+        ensures file { file.new ≡ write_after (notes self.now) memory.now file.old }
+    {
+        let opened = self.opened.as_ref().ok_or(Refusal::Unopened)?;
+        fits(opened, memory)?;
+        opened.settled()?;
+        let frame = opened.frame();
+        let from = opened.finished();
+        let greys = &memory[from..from + frame.area()];
+        pgm::write(frame.size.width, frame.size.height, greys, file).ok_or(Refusal::NoRoom)
     }
 }
 

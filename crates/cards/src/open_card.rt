@@ -33,11 +33,12 @@ pub struct OpenCard {
 // The selector's two facts stand in each contract, as in `stages::window`; so does the room, since the memory is
 // lent anew to each call.
 impl OpenCard {
-    ghost use Rattle.std.specs.Prelude.{ℕ, ◌+◌, ◌-◌, ◌<◌, List, IfSome, OnErr};
+    ghost use Rattle.std.specs.Prelude.{ℕ, ◌+◌, ◌-◌, ◌<◌, ◌==◌, if◌then◌else◌, List, Ok, Err, IfSome, OnErr};
     ghost use Rattle.areas.specs.Areas.{dropped, last_area, lowest, met, next_of, stale_rows};
     ghost use Rattle.areas.specs.Rects.{Fits};
     ghost use Rattle.calls.specs.Calls.Call.{Install, Patch};
     ghost use Rattle.calls.specs.Calls.{done, room};
+    ghost use Rattle.calls.specs.declared.refusals.Refusal.TheVariants.{Stale};
     ghost use Rattle.calls.specs.Opening.{fresh};
     ghost use Rattle.calls.specs.Outcomes.{after_open, answer_open, patched_areas, redone_rows, rows_within};
     ghost use Rattle.calls.specs.Outcomes.{task, task_made, task_weights, with_areas, with_recipe};
@@ -225,6 +226,18 @@ impl OpenCard {
         ensures { result ≡ stale_rows (notes_of self.now).areas }
     {
         self.areas.rows_left()
+    }
+
+    /// Refused with column 0 while any stage is stale (22).
+    pub fn settled(&self) -> Result<(), Refusal>
+        ensures { result ≡ (if stale_rows (notes_of self.now).areas == 0
+            then Ok tt
+            else Err (Stale 0)) }
+    {
+        if self.rows_left() > 0 {
+            return Err(Refusal::Stale(0));
+        }
+        Ok(())
     }
 
     /// The stage, counted from 1, and the row that is redone next.

@@ -4,4 +4,5 @@ pub mod Grammar
 pub mod Machine
 pub mod Numbers
 pub mod Plain
+pub mod Raw
 pub mod Reading

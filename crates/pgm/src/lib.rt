@@ -1,4 +1,5 @@
-//! PGM: a raw file read as its picture, or refused with its first fault; and what is printed of either.
+//! PGM: a raw file read as its picture, or refused with its first fault; a picture written as such a file; and
+//! what is printed of a file.
 
 #![tactic(auto)]
 
@@ -8,6 +9,7 @@ pub mod file;
 mod machine;
 pub mod picture;
 pub mod plain;
+pub mod raw;
 mod reader;
 #[cfg(test)]
 mod tests;
@@ -16,3 +18,4 @@ pub use faults::{FileFault, HeaderFault};
 pub use file::read;
 pub use picture::Picture;
 pub use plain::{PlainPgm, Refused};
+pub use raw::write;

@@ -1,0 +1,128 @@
+-- The file that is written of a picture is read as that picture, and as no other.
+use Rattle.std.proofs.Common.{◌≡◌, ℕ, ◌+◌, ◌-◌, ◌*◌, ◌/◌, ◌%◌, ◌^◌, ◌<◌, true, List, [], ◌∷◌, ◌++◌, refl, ap, subst, arith}
+use Rattle.std.proofs.Math.Nat.{div-add-mod, mod-lt}
+use Rattle.std.proofs.lemmas.Bool.Decides.{nat_tests}
+use Rattle.std.proofs.lemmas.Fmt.{decimal_by_steps}
+use Rattle.std.proofs.lemmas.List.{append_assoc}
+use Rattle.std.specs.Fmt.{decimal}
+use Rattle.pgm.specs.Bytes.{digit}
+use Rattle.pgm.specs.Grammar.{Digits, Field, Upto, Whole, Within, P5}
+use Rattle.pgm.specs.Grammar.Digits.{one as one_digit, more as more_digits}
+use Rattle.pgm.specs.Grammar.Gap.{one as one_white}
+use Rattle.pgm.specs.Raw.{raw_header, raw_file, ReadsBack, OneFile}
+use Rattle.pgm.specs.Reading.{Reading}
+use Rattle.pgm.specs.Reading.Reading.{Shows}
+use Rattle.pgm.specs.declared.machine.Known.TheVariants.{Width, Size}
+use Rattle.pgm.proofs.Readings.{one_reading}
+
+-- the code of a digit is one
+digit_code : (n : ℕ) → n < 10 → digit (48 + n) ≡ true
+digit_code n h = grind (arith, nat_tests)
+
+-- what is written of a number is its digits
+last_digit : (n : ℕ) (ds : List ℕ) → Digits ds (n / 10) → Digits (ds ++ (48 + n % 10) ∷ []) n
+last_digit n ds d =
+    let small : n % 10 < 10 = mod-lt n (omega arith) in
+    let value : n / 10 * 10 + (48 + n % 10 - 48) ≡ n = omega (arith, div-add-mod n 10) in
+    subst (Digits (ds ++ (48 + n % 10) ∷ [])) value (more_digits (48 + n % 10) d (digit_code (n % 10) small))
+
+pub decimal_digits : (n : ℕ) → n < 2 ^ 64 → Digits (decimal n) n
+decimal_digits = decimal_by_steps (λ n ds. Digits ds n)
+    (λ n small. let value : 48 + n - 48 ≡ n = omega arith in subst (Digits ((48 + n) ∷ [])) value (one_digit (48 + n) (digit_code n small)))
+    (λ n ds big d. last_digit n ds d)
+
+-- the header up to the width, to the height and to the maxval
+abbrev to_width : ℕ → List ℕ
+to_width w = (P5 ++ 10 ∷ []) ++ decimal w
+
+abbrev to_height : ℕ → ℕ → List ℕ
+to_height w h = (to_width w ++ 32 ∷ []) ++ decimal h
+
+abbrev to_maxval : ℕ → ℕ → List ℕ
+to_maxval w h = (to_height w h ++ 10 ∷ []) ++ 50 ∷ 53 ∷ 53 ∷ []
+
+header_parts : (w h : ℕ) → raw_header w h ≡ to_maxval w h ++ 10 ∷ []
+header_parts w h = simp append_assoc
+
+-- the header is whole
+module _ (w h : ℕ) (wide : Within 1024 w) (high : Within 256 h) where
+  width_field : Upto (Width w) (to_width w)
+  width_field = record {
+    before = P5;
+    gap = 10 ∷ [];
+    digits = decimal w;
+    whole = refl;
+    sound = refl;
+    gapped = one_white 10 refl;
+    valued = decimal_digits w (omega (arith, wide.1));
+    within = wide;
+  }
+
+  height_field : Upto (Size w h) (to_height w h)
+  height_field = record {
+    before = to_width w;
+    gap = 32 ∷ [];
+    digits = decimal h;
+    whole = refl;
+    sound = width_field;
+    gapped = one_white 32 refl;
+    valued = decimal_digits h (omega (arith, high.1));
+    within = high;
+  }
+
+  maxval_field : Field (Upto (Size w h)) 255 255 (to_maxval w h)
+  maxval_field = record {
+    before = to_height w h;
+    gap = 10 ∷ [];
+    digits = 50 ∷ 53 ∷ 53 ∷ [];
+    whole = refl;
+    sound = height_field;
+    gapped = one_white 10 refl;
+    valued = more_digits 53 (more_digits 53 (one_digit 50 refl) refl) refl;
+    within = (omega arith, omega arith);
+  }
+
+  pub whole_header : Whole w h 255 (raw_header w h)
+  whole_header = record {
+    numbers = to_maxval w h;
+    last = 10;
+    whole = header_parts w h;
+    fields = maxval_field;
+    blank = refl;
+  }
+
+-- the file of a picture is read as that picture
+pub reads_back : ReadsBack
+reads_back w h greys p = record {
+  header = raw_header w h;
+  whole = refl;
+  sound = whole_header w h p.wide p.high;
+  count = p.count;
+  tones = p.tones;
+}
+
+-- a picture has one file, and no other picture has it
+abbrev width_of : Reading → ℕ
+width_of (Shows w h m samples) = w
+width_of f = 0
+
+abbrev height_of : Reading → ℕ
+height_of (Shows w h m samples) = h
+height_of f = 0
+
+abbrev samples_of : Reading → List ℕ
+samples_of (Shows w h m samples) = samples
+samples_of f = []
+
+no_other : (w h v k : ℕ) (greys others : List ℕ) → Shows w h 255 greys ≡ Shows v k 255 others → (w ≡ v) × (h ≡ k) × (greys ≡ others)
+no_other w h v k greys others e = (ap width_of e, ap height_of e, ap samples_of e)
+
+same_file : (w h v k : ℕ) (greys others : List ℕ) → (w ≡ v) × (h ≡ k) × (greys ≡ others) → raw_file w h greys ≡ raw_file v k others
+same_file w h v k greys others e = rw (e.0, e.1, e.2) refl
+
+pub one_file : OneFile
+one_file w h v k greys others p q = (
+  (λ e. no_other w h v k greys others
+      (one_reading (raw_file v k others) (Shows w h 255 greys) (Shows v k 255 others) (rw e at (reads_back w h greys p)) (reads_back v k others q))),
+  same_file w h v k greys others,
+)

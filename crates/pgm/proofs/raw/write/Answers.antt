@@ -1,0 +1,14 @@
+use Rattle.pgm.proofs.Writing.{one_file, reads_back}
+use Rattle.pgm.proofs.raw.write.Goals as goal
+
+pub returns-then-file-end-clause-reads_back : goal.returns-then-file-end-clause-reads_back
+returns-then-file-end-clause-reads_back c = reads_back
+
+pub returns-then-file-end-clause-one_file : goal.returns-then-file-end-clause-one_file
+returns-then-file-end-clause-one_file c = one_file
+
+pub returns-clause-reads_back : goal.returns-clause-reads_back
+returns-clause-reads_back c = reads_back
+
+pub returns-clause-one_file : goal.returns-clause-one_file
+returns-clause-one_file c = one_file
