@@ -80,7 +80,7 @@ module _ {T R : Type 0} (K : Kind T R) (size : Size) (most : ℕ) (first : Pictu
         ∙ (ap (λ n. (after_by K at.weights at.memory n c).notes) kept.notes
         ∙ ap (λ (s : State R). s.notes) (cond-false (misfit (opened h at) c) _ _ fit))
 
-    memory_is : to.memory ≡ (after_open K (opened h at) c).memory
+    pub memory_is : to.memory ≡ (after_open K (opened h at) c).memory
     memory_is =
         out.memory
         ∙ (ap (λ n. (after_by K at.weights at.memory n c).memory) kept.notes

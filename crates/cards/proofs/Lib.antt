@@ -3,3 +3,4 @@ pub mod Subtracting
 pub mod Written
 pub mod Tasks
 pub mod Progress
+pub mod Files

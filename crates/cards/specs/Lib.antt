@@ -3,3 +3,4 @@ pub mod Loading
 pub mod Refused
 pub mod OpenCards
 pub mod Writing
+pub mod Files

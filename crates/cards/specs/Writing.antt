@@ -1,8 +1,8 @@
 -- What a write of the finished card answers and leaves. Assumes nothing.
-use Rattle.std.specs.Prelude.{ℕ, if◌then◌else◌, List, length, take, drop, Ok, Err, Option, Result, nat_le}
+use Rattle.std.specs.Prelude.{◌≡◌, ℕ, if◌then◌else◌, List, length, take, drop, Ok, Err, Option, Result, nat_le}
 use Rattle.planes.specs.Sizes.{area, start}
 use Rattle.pgm.specs.Raw.{raw_file, over}
-use Rattle.calls.specs.Calls.{Notes, Answer}
+use Rattle.calls.specs.Calls.{Notes, State, Answer}
 use Rattle.calls.specs.Calls.Answer.{Number, Refused}
 use Rattle.calls.specs.Finished.{of_open, of_settled, answer_given, after_given}
 
@@ -28,3 +28,8 @@ write_answer notes m lent = answer_given (λ file. Number (length file)) (file_g
 abbrev pub write_after : Option Notes → List ℕ → List ℕ → List ℕ
 write_after notes m before =
     after_given (λ file. over file before) before (file_given notes m (length before))
+
+-- a write on a card in a state has that answer, and leaves the lent bytes so
+pub record Writes (at : State ℕ) (before : List ℕ) (a : Answer ℕ) (after : List ℕ) : Type 0 where
+  pub answer : a ≡ write_answer at.notes at.memory (length before)
+  pub bytes : after ≡ write_after at.notes at.memory before

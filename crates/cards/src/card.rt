@@ -233,7 +233,8 @@ impl<S: Selector> Card<Grey, S> {
     ghost use Rattle.calls.specs.Calls.{done, number};
     ghost use Rattle.calls.specs.Residue.{residue_after, residue_answer};
     ghost use Rattle.cards.specs.Loading.{Loads};
-    ghost use Rattle.cards.specs.Writing.{write_after, write_answer};
+    ghost use Rattle.cards.specs.Files.{OnceMore, RightFiles};
+    ghost use Rattle.cards.specs.Writing.{Writes};
     ghost use Rattle.cards.specs.Meanings.{StaysInOrder, notes, selector_of, state_of};
     ghost use Rattle.tones.specs.Greys.{greys};
 
@@ -278,9 +279,10 @@ impl<S: Selector> Card<Grey, S> {
     /// how many it takes: at most 262,160. The bytes after them stay. Refused without a size (16), with memory of
     /// another length (14), with column 0 while any stage is stale (22), and where fewer bytes are lent (24).
     pub fn write(&self, memory: &[u8], file: &mut [u8]) -> Result<usize, Refusal>
-        ensures answer { number result
-            ≡ write_answer (notes self.now) memory.now (length file.old) }
-        ensures file { file.new ≡ write_after (notes self.now) memory.now file.old }
+        ensures outcome { let at = state_of S.weight self.now memory.now in
+            Writes at file.old (number result) file.new }
+        ensures right { RightFiles }
+        ensures once_more { OnceMore }
     {
         let opened = self.opened.as_ref().ok_or(Refusal::Unopened)?;
         fits(opened, memory)?;

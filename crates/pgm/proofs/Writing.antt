@@ -1,18 +1,21 @@
 -- The file that is written of a picture is read as that picture, and as no other.
-use Rattle.std.proofs.Common.{◌≡◌, ℕ, ◌+◌, ◌-◌, ◌*◌, ◌/◌, ◌%◌, ◌^◌, ◌<◌, true, List, [], ◌∷◌, ◌++◌, refl, ap, subst, arith}
+use Rattle.std.proofs.Common.{drop, Ok, Err, Result, ◌≡◌, ℕ, ◌+◌, ◌-◌, ◌*◌, ◌/◌, ◌%◌, ◌^◌, ◌<◌, true, List, [], ◌∷◌, ◌++◌, length, sym, refl, ap, ◌∙◌, subst, arith}
 use Rattle.std.proofs.Math.Nat.{div-add-mod, mod-lt}
 use Rattle.std.proofs.lemmas.Bool.Decides.{nat_tests}
 use Rattle.std.proofs.lemmas.Fmt.{decimal_by_steps}
-use Rattle.std.proofs.lemmas.List.{append_assoc}
+use Rattle.std.proofs.lemmas.List.{append_assoc, drop_at}
 use Rattle.std.specs.Fmt.{decimal}
 use Rattle.pgm.specs.Bytes.{digit}
-use Rattle.pgm.specs.Grammar.{Digits, Field, Upto, Whole, Within, P5}
+use Rattle.pgm.specs.Grammar.{Digits, Field, Upto, Whole, Pgm, Within, P5}
 use Rattle.pgm.specs.Grammar.Digits.{one as one_digit, more as more_digits}
 use Rattle.pgm.specs.Grammar.Gap.{one as one_white}
 use Rattle.pgm.specs.Raw.{raw_header, raw_file, ReadsBack, OneFile}
 use Rattle.pgm.specs.Reading.{Reading}
 use Rattle.pgm.specs.Reading.Reading.{Shows}
 use Rattle.pgm.specs.declared.machine.Known.TheVariants.{Width, Size}
+use Rattle.pgm.specs.declared.faults.HeaderFault.{HeaderFault}
+use Rattle.pgm.specs.declared.machine.Header.{Header}
+use Rattle.pgm.proofs.Complete.{whole_found}
 use Rattle.pgm.proofs.Readings.{one_reading}
 
 -- the code of a digit is one
@@ -126,3 +129,28 @@ one_file w h v k greys others p q = (
       (one_reading (raw_file v k others) (Shows w h 255 greys) (Shows v k 255 others) (rw e at (reads_back w h greys p)) (reads_back v k others q))),
   same_file w h v k greys others,
 )
+
+-- a file that is written of a size is read as no other picture, whatever its greys are
+abbrev end_of : Result Header HeaderFault → ℕ
+end_of (Ok h) = h.end
+end_of (Err f) = 0
+
+abbrev wide_of : Result Header HeaderFault → ℕ
+wide_of (Ok h) = h.width
+wide_of (Err f) = 0
+
+abbrev high_of : Result Header HeaderFault → ℕ
+high_of (Ok h) = h.height
+high_of (Err f) = 0
+
+pub read_written : (w h : ℕ) (greys : List ℕ) → Within 1024 w → Within 256 h →
+    (v k m : ℕ) (samples : List ℕ) → Pgm (raw_file w h greys) v k m samples → (v ≡ w) × (k ≡ h) × (samples ≡ greys)
+read_written w h greys wide high v k m samples p =
+    let file = raw_file w h greys in
+    let ours = whole_found w h 255 file (raw_header w h) greys (whole_header w h wide high) refl in
+    let theirs = whole_found v k m file p.header samples p.sound p.whole in
+    let same = sym theirs ∙ ours in
+    let long : length p.header ≡ length (raw_header w h) = ap end_of same in
+    let rest : drop (length (raw_header w h)) file ≡ greys = drop_at (raw_header w h) greys _ refl in
+    let theirs-rest : drop (length p.header) file ≡ samples = ap (drop (length p.header)) p.whole ∙ drop_at p.header samples _ refl in
+    (ap wide_of same, ap high_of same, sym theirs-rest ∙ (ap (λ n. drop n file) long ∙ rest))
