@@ -4,6 +4,7 @@ pub mod StageExamples
 pub mod SideExamples
 pub mod CardExamples
 pub mod PatchExamples
+pub mod FileExamples
 pub mod RefusalExamples
 pub mod RuleExamples
 pub mod DraftExamples

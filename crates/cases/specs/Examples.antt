@@ -31,6 +31,7 @@ use Rattle.stages.specs.Planes.{picture}
 use Rattle.stages.specs.Stages.{Picture, made, shifted}
 use Rattle.cases.specs.Patches.{PatchExamples}
 use Rattle.cases.specs.Refused.{RefusalExamples}
+use Rattle.cases.specs.Written.{FileExamples, HeaderExamples}
 use Rattle.tones.specs.Colours.{colour, colours, parts, Making}
 use Rattle.tones.specs.Greys.{greys}
 use Rattle.tones.specs.Refusals.{refusal_number as tone_number}
@@ -272,6 +273,8 @@ pub record WorkedExamples : Type 0 where
   pub skew_cards : SkewExamples
   pub patches : (w : ℕ → ℕ) → PatchExamples w
   pub refusals : (w : ℕ → ℕ) → RefusalExamples w
+  pub headers : HeaderExamples
+  pub files : (d : Draft) → ECross d → (w : ℕ → ℕ) (t : ℕ) → FileExamples d w t
   pub drafts : DraftExamples
   pub residues : (d : Draft) → DRaising d → (w : ℕ → ℕ) → ResidueExamples d w
   pub drafts_there : DraftsThere

@@ -2,4 +2,5 @@ pub mod Samples
 pub mod Sides
 pub mod Patches
 pub mod Refused
+pub mod Written
 pub mod Examples

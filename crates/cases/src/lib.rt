@@ -15,3 +15,5 @@ pub fn examples_hold() -> u8
 mod example;
 #[cfg(test)]
 mod tests;
+#[cfg(test)]
+mod writing;

@@ -1,5 +1,6 @@
 use Rattle.cases.proofs.CardExamples.{one_stage_examples, residue_examples, two_stage_examples}
 use Rattle.cases.proofs.DraftExamples.{draft_examples}
+use Rattle.cases.proofs.FileExamples.{file_examples, header_examples}
 use Rattle.cases.proofs.OneStep.{drafts_there}
 use Rattle.cases.proofs.PatchExamples.{patch_examples}
 use Rattle.cases.proofs.RefusalExamples.{refusal_examples}
@@ -28,6 +29,8 @@ returns c =
       skew_cards = skew_examples;
       patches = patch_examples;
       refusals = refusal_examples;
+      headers = header_examples;
+      files = file_examples;
       drafts = draft_examples;
       residues = residue_examples;
       drafts_there = drafts_there;
