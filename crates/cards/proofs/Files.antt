@@ -5,17 +5,17 @@ use Rattle.std.proofs.lemmas.Bool.{cond-true, eq-eqb, eqb-true, le-leb}
 use Rattle.std.proofs.lemmas.Int.{ints, clamps}
 use Rattle.std.proofs.lemmas.List.{append_assoc, get_or-drop, get_or-take, length-append, length-drop, length-map, length-take-le, map-append, take_all, take_at}
 use Rattle.planes.specs.declared.size.Size.{Size}
-use Rattle.planes.specs.Sizes.{area, cell, start}
+use Rattle.planes.specs.Sizes.{Limits, area, cell, start}
 use Rattle.areas.specs.Areas.{Area, stale_rows}
 use Rattle.stages.specs.Planes.{overwritten}
 use Rattle.filters.specs.Morphology.{On}
 use Rattle.tones.specs.Greys.{greys}
 use Rattle.tones.specs.GreyLaws.{grey_laws}
 use Rattle.pgm.specs.Grammar.{Within}
-use Rattle.pgm.specs.Raw.{raw_file, over}
+use Rattle.pgm.specs.Raw.{IsPicture, raw_file, over}
 use Rattle.pgm.specs.Reading.{Reading, Reads}
 use Rattle.pgm.specs.Reading.Reading.{Shows, Faulty}
-use Rattle.pgm.proofs.Writing.{read_written}
+use Rattle.pgm.proofs.Writing.{read_written, reads_back}
 use Rattle.recipes.specs.declared.recipe.Stage.{Stage}
 use Rattle.stages.specs.Stages.{Picture}
 use Rattle.tones.specs.declared.greys.Grey.{Grey}
@@ -31,9 +31,9 @@ use Rattle.calls.specs.Runs.Run.{more}
 use Rattle.calls.proofs.Keeping.{Kept, answer_is, kept_run, memory_is, notes_after, opened}
 use Rattle.calls.proofs.Rightness.{Right, finished_clean}
 use Rattle.calls.proofs.Written.{lower_before, plane_within}
-use Rattle.cards.specs.Files.{MadeFile, OnceMore, Played, RightFiles}
+use Rattle.cards.specs.Files.{ReadBack, MadeFile, OnceMore, Played, RightFiles}
 use Rattle.cards.specs.Loading.{Loads, LoadsBy}
-use Rattle.cards.specs.Writing.{finished_greys, file_of, file_given, write_answer, write_after}
+use Rattle.cards.specs.Writing.{Writes, finished_greys, file_of, file_given, write_answer, write_after}
 
 -- the file that an accepted write gives
 pub record Accepted (notes : Option Notes) (m : List ℕ) (lent n : ℕ) : Type 0 where
@@ -264,3 +264,33 @@ once_more size file f h at p empty to load before after a room w =
     let l = lays size.width size.height tones (limits.wide, limits.not_too_wide) (limits.high, limits.not_too_high) at to (rw is at load) in
     let again : file_given to.notes to.memory (length before) ≡ Ok file = given_again size tones h at p empty to l (length before) (rw is at room) ∙ ap Ok (sym is) in
     (w.answer ∙ ap (answer_given (λ f. Number (length f))) again, w.bytes ∙ given_after to.notes to.memory before file again)
+
+-- the notes of an open card are within the limits, and its memory is of bytes
+pub record Bounded (k : Notes) (m : List ℕ) : Type 0 where
+  pub limits : Limits k.size
+  pub few : length k.recipe ≤ k.most
+  pub bytes : (i : ℕ) → get_or m i 0 ≤ 255
+
+-- the greys of its finished plane are a picture
+pictured : (k : Notes) (m : List ℕ) → length m ≡ room k → Bounded k m → IsPicture k.size.width k.size.height (finished_greys k m)
+pictured k m long b =
+    let from = start k.size (length k.recipe) in
+    let part : from + area k.size ≤ length m = plane_within k.size (length k.recipe) k.most (length m) b.few long in
+    let count : length (finished_greys k m) ≡ area k.size = length-take-le (area k.size) (drop from m) (omega (arith, part, length-drop from m)) in
+    record {
+      wide = (b.limits.wide, b.limits.not_too_wide);
+      high = (b.limits.high, b.limits.not_too_high);
+      count = count;
+      tones = λ i l. subst (λ v. v ≤ 255) (sym (get_or-take (area k.size) (drop from m) i 0 (omega (arith, l, count)) ∙ get_or-drop from m i 0)) (b.bytes (from + i));
+    }
+
+-- so the file of an accepted write is read back
+pub read_back : (at : State ℕ) (before after : List ℕ) (a : Answer ℕ) → Writes at before a after → (k : Notes) → at.notes ≡ Some k → Bounded k at.memory → ReadBack at a after
+read_back at before after a w card opened bounded k n is e =
+    let got = accepted_by at.notes at.memory (length before) n (sym w.answer ∙ e) in
+    let same : got.card ≡ k = same_notes (sym got.opened ∙ is) in
+    let file : take n after ≡ file_of k at.memory = ap (take n) (w.bytes ∙ given_after at.notes at.memory before _ got.gives) ∙ (first_of _ before n got.count ∙ ap (λ c. file_of c at.memory) same) in
+    let long : length at.memory ≡ room k = got.long ∙ ap room same in
+    let bound : Bounded k at.memory = subst (λ c. Bounded c at.memory) (same_notes (sym opened ∙ is)) bounded in
+    let read = reads_back k.size.width k.size.height (finished_greys k at.memory) (pictured k at.memory long bound) in
+    rw file read

@@ -7,13 +7,21 @@ use Rattle.stages.specs.Stages.{made}
 use Rattle.filters.specs.Morphology.{On}
 use Rattle.tones.specs.Greys.{greys}
 use Rattle.pgm.specs.Raw.{raw_file, over}
+use Rattle.pgm.specs.Reading.{Reads}
+use Rattle.pgm.specs.Reading.Reading.{Shows}
 use Rattle.calls.specs.Calls.{Notes, State, Answer}
 use Rattle.calls.specs.Calls.Answer.{Number}
 use Rattle.calls.specs.History.{History, in_force}
 use Rattle.calls.specs.Runs.{Run, Begun}
 use Rattle.calls.specs.Promise.{raw_card}
 use Rattle.cards.specs.Loading.{Loads}
-use Rattle.cards.specs.Writing.{Writes}
+use Rattle.cards.specs.Writing.{Writes, finished_greys}
+
+-- the file of an accepted write is read as the size and the finished greys of the card
+abbrev pub ReadBack : State ℕ → Answer ℕ → List ℕ → Type 0
+ReadBack at a after =
+    (k : Notes) (n : ℕ) → at.notes ≡ Some k → a ≡ Number n →
+    Reads (take n after) (Shows k.size.width k.size.height 255 (finished_greys k at.memory))
 
 -- a card of a size that was opened, and then any calls made on it: the state that they led to, and
 -- their history

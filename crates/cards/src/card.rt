@@ -233,7 +233,7 @@ impl<S: Selector> Card<Grey, S> {
     ghost use Rattle.calls.specs.Calls.{done, number};
     ghost use Rattle.calls.specs.Residue.{residue_after, residue_answer};
     ghost use Rattle.cards.specs.Loading.{Loads};
-    ghost use Rattle.cards.specs.Files.{OnceMore, RightFiles};
+    ghost use Rattle.cards.specs.Files.{OnceMore, ReadBack, RightFiles};
     ghost use Rattle.cards.specs.Writing.{Writes};
     ghost use Rattle.cards.specs.Meanings.{StaysInOrder, notes, selector_of, state_of};
     ghost use Rattle.tones.specs.Greys.{greys};
@@ -281,6 +281,8 @@ impl<S: Selector> Card<Grey, S> {
     pub fn write(&self, memory: &[u8], file: &mut [u8]) -> Result<usize, Refusal>
         ensures outcome { let at = state_of S.weight self.now memory.now in
             Writes at file.old (number result) file.new }
+        ensures read_back { let at = state_of S.weight self.now memory.now in
+            ReadBack at (number result) file.new }
         ensures right { RightFiles }
         ensures once_more { OnceMore }
     {
