@@ -32,7 +32,10 @@ fn written(
 
     let len = header.len() + area;
     let mut short = vec![in heap; 0xa5u8; len - 1]?;
-    assert_eq!(rt; card.write(memory, short.as_mut_slice()), Err(Refusal::NoRoom));
+    assert_eq!(rt;
+        card.write(memory, short.as_mut_slice()),
+        Err(Refusal::NoRoom)
+    );
     assert!(rt; short.iter().all(|byte| *byte == 0xa5));
 
     let mut exact = vec![in heap; 0xa5u8; len]?;
@@ -46,7 +49,10 @@ fn written(
     assert_eq!(rt; &long.as_slice()[len..], &[0xa5; 3][..]);
 
     let picture = read(exact.as_slice())?;
-    assert_eq!(rt; (picture.width, picture.height, picture.maxval), (width, height, 255));
+    assert_eq!(rt;
+        (picture.width, picture.height, picture.maxval),
+        (width, height, 255)
+    );
     assert_eq!(rt; picture.samples, &memory[..area]);
     Ok(())
 }

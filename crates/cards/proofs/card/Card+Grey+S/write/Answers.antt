@@ -1,4 +1,4 @@
-use Rattle.std.proofs.Common.{◌≡◌, ap, Some, get_or, ◌≤◌, ℕ, arith, rules}
+use Rattle.std.proofs.Common.{◌≡◌, ap, Some, arith, rules}
 use Rattle.std.specs.Option.{option_map}
 use Rattle.calls.specs.Calls.{number}
 use Rattle.cards.specs.Meanings.{state_of}
