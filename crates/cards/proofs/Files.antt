@@ -12,7 +12,7 @@ use Rattle.filters.specs.Morphology.{On}
 use Rattle.tones.specs.Greys.{greys}
 use Rattle.tones.specs.GreyLaws.{grey_laws}
 use Rattle.pgm.specs.Grammar.{Within}
-use Rattle.pgm.specs.Raw.{IsPicture, raw_file, over}
+use Rattle.pgm.specs.Raw.{IsPicture, over, raw_file}
 use Rattle.pgm.specs.Reading.{Reading, Reads}
 use Rattle.pgm.specs.Reading.Reading.{Shows, Faulty}
 use Rattle.pgm.proofs.Writing.{read_written, reads_back}
@@ -102,10 +102,6 @@ bytes_written (r ∷ rs) h = ap₂ (λ x xs. x ∷ xs) (byte_written r (h 0 (ome
 
 -- the rows of a patch over the whole card stand one after another in plane 0
 module _ (size : Size) (tones m : List ℕ) (count : length tones ≡ area size) where
-  -- the tones of the first n rows
-  front : ℕ → List ℕ
-  front n = as_written greys (take (n * size.width) tones)
-
   pub laid_whole : (n : ℕ) → n ≤ size.height → take (n * size.width) (laid greys size 0 0 size.width tones m n) ≡ as_written greys (take (n * size.width) tones)
   unfolding laid
   laid_whole zero h = let none : 0 * size.width ≡ 0 = omega arith in ap (λ k. take k m) none ∙ sym (ap (λ k. as_written greys (take k tones)) none)

@@ -230,6 +230,7 @@ impl<T: Tone, S: Selector> Card<T, S> {
 }
 
 impl<S: Selector> Card<Grey, S> {
+    ghost use Rattle.std.specs.Prelude.{◌≤◌, IfOk};
     ghost use Rattle.calls.specs.Calls.{done, number};
     ghost use Rattle.calls.specs.Residue.{residue_after, residue_answer};
     ghost use Rattle.cards.specs.Loading.{Loads};
@@ -283,6 +284,7 @@ impl<S: Selector> Card<Grey, S> {
             Writes at file.old (number result) file.new }
         ensures read_back { let at = state_of S.weight self.now memory.now in
             ReadBack at (number result) file.new }
+        ensures most { IfOk result (λ n. n ≤ 262160) }
         ensures right { RightFiles }
         ensures once_more { OnceMore }
     {

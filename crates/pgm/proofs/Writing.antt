@@ -2,14 +2,14 @@
 use Rattle.std.proofs.Common.{drop, Ok, Err, Result, ◌≡◌, ℕ, ◌+◌, ◌-◌, ◌*◌, ◌/◌, ◌%◌, ◌^◌, ◌<◌, true, List, [], ◌∷◌, ◌++◌, length, sym, refl, ap, ◌∙◌, subst, arith}
 use Rattle.std.proofs.Math.Nat.{div-add-mod, mod-lt}
 use Rattle.std.proofs.lemmas.Bool.Decides.{nat_tests}
-use Rattle.std.proofs.lemmas.Fmt.{decimal_by_steps}
-use Rattle.std.proofs.lemmas.List.{append_assoc, drop_at}
+use Rattle.std.proofs.lemmas.Fmt.{decimal_by_steps, length-decimal-le}
+use Rattle.std.proofs.lemmas.List.{append_assoc, drop_at, length-append}
 use Rattle.std.specs.Fmt.{decimal}
 use Rattle.pgm.specs.Bytes.{digit}
 use Rattle.pgm.specs.Grammar.{Digits, Field, Upto, Whole, Pgm, Within, P5}
 use Rattle.pgm.specs.Grammar.Digits.{one as one_digit, more as more_digits}
 use Rattle.pgm.specs.Grammar.Gap.{one as one_white}
-use Rattle.pgm.specs.Raw.{raw_header, raw_file, ReadsBack, OneFile}
+use Rattle.pgm.specs.Raw.{OneFile, ReadsBack, ShortHeader, raw_file, raw_header}
 use Rattle.pgm.specs.Reading.{Reading}
 use Rattle.pgm.specs.Reading.Reading.{Shows}
 use Rattle.pgm.specs.declared.machine.Known.TheVariants.{Width, Size}
@@ -93,6 +93,15 @@ module _ (w h : ℕ) (wide : Within 1024 w) (high : Within 256 h) where
     fields = maxval_field;
     blank = refl;
   }
+
+-- and short
+pub short_header : ShortHeader
+short_header w h wide high =
+    let across = length-decimal-le 4 w (omega arith) (omega (arith, wide.1)) (omega (arith, wide.1)) in
+    let down = length-decimal-le 3 h (omega arith) (omega (arith, high.1)) (omega (arith, high.1)) in
+    let gap = decimal w ++ 32 ∷ [] in
+    let size = gap ++ decimal h in
+    omega (arith, across, down, length-append (decimal w) (32 ∷ []), length-append gap (decimal h), length-append size (10 ∷ 50 ∷ 53 ∷ 53 ∷ 10 ∷ []))
 
 -- the file of a picture is read as that picture
 pub reads_back : ReadsBack

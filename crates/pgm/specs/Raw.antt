@@ -32,6 +32,10 @@ pub record IsPicture (w h : ℕ) (greys : List ℕ) : Type 0 where
   pub count : length greys ≡ w * h
   pub tones : (i : ℕ) → i < length greys → slice_index greys i ≤ 255
 
+-- the header of a picture's file has at most 16 bytes
+abbrev pub ShortHeader : Type 0
+ShortHeader = (w h : ℕ) → Within 1024 w → Within 256 h → length (raw_header w h) ≤ 16
+
 -- the file of a picture is read as that picture
 abbrev pub ReadsBack : Type 0
 ReadsBack =

@@ -18,4 +18,4 @@ pub use faults::{FileFault, HeaderFault};
 pub use file::read;
 pub use picture::Picture;
 pub use plain::{PlainPgm, Refused};
-pub use raw::write;
+pub use raw::{LONGEST_HEADER, write};
