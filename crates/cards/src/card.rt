@@ -279,6 +279,10 @@ impl<S: Selector> Card<Grey, S> {
     /// Writes the finished card as a raw PGM file (`P5`, maxval 255) into the first of the lent bytes, and answers
     /// how many it takes: at most 262,160. The bytes after them stay. Refused without a size (16), with memory of
     /// another length (14), with column 0 while any stage is stale (22), and where fewer bytes are lent (24).
+    ///
+    /// Of the file `pgm::read` makes the card's size and greys again (`read_back`). After any calls it shows what the
+    /// recipe in force makes of the raw card (`right`). Loaded onto a card of its size with an empty recipe and
+    /// written once more, it is the same file (`once_more`).
     pub fn write(&self, memory: &[u8], file: &mut [u8]) -> Result<usize, Refusal>
         ensures outcome { let at = state_of S.weight self.now memory.now in
             Writes at file.old (number result) file.new }
