@@ -23,7 +23,7 @@ use Rattle.filters.specs.Morphology.{On}
 use Rattle.filters.proofs.Locality.{local}
 use Rattle.tones.specs.Greys.{greys}
 use Rattle.calls.specs.declared.refusals.Refusal.{Refusal}
-use Rattle.calls.specs.declared.refusals.Refusal.TheVariants.{Size as BadSize, Memory, Range, Unopened, Outside, Count, TooFewSteps, TooManyStages, Amount, Stale}
+use Rattle.calls.specs.declared.refusals.Refusal.TheVariants.{Size as BadSize, Memory, Range, Unopened, Outside, Count, TooFewSteps, TooManyStages, Amount, Stale, NoRoom}
 use Rattle.calls.specs.Calls.{State, refusal, done, number}
 use Rattle.calls.specs.Calls.Answer.{Done, Number}
 use Rattle.calls.specs.Calls.Call.{Patch, Install, Work, Left}
@@ -57,6 +57,7 @@ refused TooFewSteps = refl
 refused TooManyStages = refl
 refused Amount = refl
 refused (Stale c) = refl
+refused NoRoom = refl
 
 load_ok : (r : Result (Unit {0}) LoadFault) → load_answer r ≡ Done → is_ok r ≡ true
 load_ok (Ok u) e = refl
