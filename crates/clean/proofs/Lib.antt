@@ -1,3 +1,4 @@
 mod Running
 mod Collecting
 mod Crosses
+mod Files

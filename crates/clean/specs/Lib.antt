@@ -1,2 +1,3 @@
 pub mod Cleaning
 pub mod Printed
+pub mod Requests

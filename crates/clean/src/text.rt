@@ -1,20 +1,21 @@
 //! What the program prints of a file.
 
 ghost use Rattle.clean.specs.Printed.{Printed};
-ghost use Rattle.std.specs.Prelude.{◌≡◌, IfOk, string_bytes};
+ghost use Rattle.std.specs.Prelude.{◌≡◌, IfOk};
 
 use crate::cleaning::cleaned;
+use crate::form::Form;
 use crate::input::LONGEST;
-use pgm::{Picture, PlainPgm, Refused, read};
+use pgm::{Picture, Refused, read};
 use std::alloc::Global;
 use std::io;
 
-/// What is printed of a file.
-pub fn report(heap: Global, file: &[u8]) -> io::Result<String>
-    ensures { IfOk result (λ s. Printed file.now (string_bytes s)) }
+/// What is printed of a file: of a picture the cleaned card in the form, else a line of text.
+pub fn report(heap: Global, file: &[u8], form: Form) -> io::Result<Vec<u8>>
+    ensures { IfOk result (λ v. Printed form file.now v.items) }
 {
     if file.len() > LONGEST {
-        return Ok(String::from_str(heap, "too large\n")?);
+        return Ok(String::from_str(heap, "too large\n")?.into_bytes());
     }
     match read(file) {
         Ok(picture) => {
@@ -23,8 +24,8 @@ pub fn report(heap: Global, file: &[u8]) -> io::Result<String>
                 samples: tones.as_slice(),
                 ..picture
             };
-            Ok(PlainPgm(eroded).to_string(heap)?)
+            form.bytes(heap, eroded)
         }
-        Err(fault) => Ok(Refused(fault).to_string(heap)?),
+        Err(fault) => Ok(Refused(fault).to_string(heap)?.into_bytes()),
     }
 }
