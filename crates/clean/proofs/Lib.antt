@@ -1,4 +1,3 @@
 mod Running
 mod Collecting
 mod Crosses
-mod Files

@@ -6,12 +6,9 @@ ghost use Rattle.pgm.specs.Raw.{raw_file};
 ghost use Rattle.planes.specs.Sizes.{Limits};
 ghost use Rattle.std.specs.Prelude.{◌≡◌, IfOk};
 
-use pgm::{Picture, PlainPgm};
+use pgm::{LONGEST_HEADER, Picture, PlainPgm};
 use std::alloc::Global;
 use std::io;
-
-/// The longest header of a raw file, in bytes: that of a card of 1,024 × 256.
-const LONGEST_HEADER: usize = 16;
 
 /// A form in which a card is printed.
 #[derive(Clone, Copy)]
@@ -37,7 +34,6 @@ impl Form {
 }
 
 /// A picture as a raw file.
-#[tactic(auto, using(crate::proofs::Files::at_most_16_more))]
 fn raw(heap: Global, picture: Picture<'_>) -> io::Result<Vec<u8>>
     requires { Limits (size picture.width picture.height) }
     ensures { let p = picture.entry in
