@@ -20,6 +20,9 @@ use selectors::Selector;
 use std::marker::PhantomData;
 use tones::{Grey, Tone};
 
+/// The most bytes of the file of a card: a write that is lent as many always has room.
+pub const LONGEST_FILE: usize = 262_160;
+
 /// A card of tones T with a selector S. Once it has a size it is an open card; its tones lie in memory that each
 /// call is lent.
 /// That its selector is in order is no invariant: a card may be made of any selector, and each call says that it
@@ -230,8 +233,9 @@ impl<T: Tone, S: Selector> Card<T, S> {
 }
 
 impl<S: Selector> Card<Grey, S> {
-    ghost use Rattle.std.specs.Prelude.{◌≤◌, IfOk};
+    ghost use Rattle.std.specs.Prelude.{◌≢◌, ◌≤◌, IfOk};
     ghost use Rattle.calls.specs.Calls.{done, number};
+    ghost use Rattle.calls.specs.declared.refusals.Refusal.TheVariants.{NoRoom};
     ghost use Rattle.calls.specs.Residue.{residue_after, residue_answer};
     ghost use Rattle.cards.specs.Loading.{Loads};
     ghost use Rattle.cards.specs.Files.{OnceMore, ReadBack, RightFiles};
@@ -277,8 +281,9 @@ impl<S: Selector> Card<Grey, S> {
     }
 
     /// Writes the finished card as a raw PGM file (`P5`, maxval 255) into the first of the lent bytes, and answers
-    /// how many it takes: at most 262,160. The bytes after them stay. Refused without a size (16), with memory of
-    /// another length (14), with column 0 while any stage is stale (22), and where fewer bytes are lent (24).
+    /// how many it takes, at most `LONGEST_FILE`: as many are always enough. The bytes after them stay. Refused
+    /// without a size (16), with memory of another length (14), with column 0 while any stage is stale (22), and
+    /// where fewer bytes are lent (24).
     ///
     /// Of the file `pgm::read` makes the card's size and greys again (`read_back`). After any calls it shows what the
     /// recipe in force makes of the raw card (`right`). Loaded onto a card of its size with an empty recipe and
@@ -288,7 +293,8 @@ impl<S: Selector> Card<Grey, S> {
             Writes at file.old (number result) file.new }
         ensures read_back { let at = state_of S.weight self.now memory.now in
             ReadBack at (number result) file.new }
-        ensures most { IfOk result (λ n. n ≤ 262160) }
+        ensures most { IfOk result (λ n. n ≤ LONGEST_FILE) }
+        ensures enough { LONGEST_FILE ≤ length file.old → result ≢ Err NoRoom }
         ensures right { RightFiles }
         ensures once_more { OnceMore }
     {

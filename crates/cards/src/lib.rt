@@ -10,6 +10,6 @@ pub mod refused;
 mod residues;
 
 pub use calls::refusals::Refusal;
-pub use card::{Card, memory_len};
+pub use card::{Card, LONGEST_FILE, memory_len};
 pub use faults::LoadFault;
 pub use refused::AnyRefusal;

@@ -34,5 +34,10 @@ fn a_corner_is_lettered_again(rt: HostRuntime) -> Result<(), Fail> {
 
     assert_eq!(rt; card.work(&mut memory, 9)?, 2);
     assert_eq!(rt; card.row(&memory, 0, 0, 3)?, &[7, 20, 30][..]);
+
+    let mut file = [0; 22]; // `cards::LONGEST_FILE` bytes are enough for any card
+    assert_eq!(rt; card.write(&memory, &mut file)?, 20); // a raw PGM file; the bytes after it stay
+    assert_eq!(rt; &file[..11], &b"P5\n3 3\n255\n"[..]);
+    assert_eq!(rt; &file[11..], &[7, 20, 30, 40, 40, 50, 70, 70, 80, 0, 0][..]);
     Ok(())
 }

@@ -4,6 +4,7 @@ use crate::faults::{FileFault, HeaderFault};
 use crate::file::read;
 use crate::picture::Picture;
 use crate::plain::{PlainPgm, Refused};
+use crate::raw::write;
 use std::alloc::{AllocError, Global};
 use std::test::Fail;
 
@@ -122,6 +123,17 @@ fn long_width(heap: Global, digit: u8) -> Result<Outcome, AllocError> {
 fn long_numbers(rt: HostRuntime) -> Result<(), Fail> {
     assert_eq!(rt; long_width(rt.alloc(), b'0')?, Ok((1, 1, 255)));
     assert_eq!(rt; long_width(rt.alloc(), b'9')?, Err(('c', 3)));
+    Ok(())
+}
+
+#[test]
+fn a_picture_is_written(rt: HostRuntime) -> Result<(), Fail> {
+    let mut file = [7; 14];
+    assert_eq!(rt; write(2, 1, &[10, 200], &mut file[..12]), None);
+    assert_eq!(rt; &file[..], &[7; 14][..]);
+    assert_eq!(rt; write(2, 1, &[10, 200], &mut file), Some(13));
+    assert_eq!(rt; &file[..], &b"P5\n2 1\n255\n\n\xc8\x07"[..]);
+    assert_eq!(rt; read(&file[..13])?.samples, &[10, 200][..]);
     Ok(())
 }
 

@@ -12,6 +12,7 @@ use Rattle.calls.specs.Calls.Answer.{Number, Next}
 use Rattle.calls.specs.Opening.{fresh, open_refusal}
 use Rattle.calls.specs.Outcomes.{Outcome, done_unless, kept_if}
 use Rattle.calls.specs.declared.refusals.Refusal.{Refusal}
+use Rattle.cards.specs.declared.card.TheConstants.{LONGEST_FILE}
 use Rattle.selectors.specs.Played.{Answered}
 use Rattle.selectors.specs.declared.calls.SelectorCall.{SelectorCall}
 use Rattle.selectors.specs.declared.calls.CallRefusal.{CallRefusal}
@@ -21,13 +22,15 @@ use Rattle.scripts.specs.Words.{Rest}
 use Rattle.scripts.specs.declared.answers.Answer.{Answer}
 use Rattle.scripts.specs.declared.answers.Answer.TheVariants as answer
 use Rattle.scripts.specs.declared.answers.Fault.{Fault}
-use Rattle.scripts.specs.declared.answers.Fault.TheVariants.{Unknown, Card, Tone, Memory}
+use Rattle.scripts.specs.declared.answers.Fault.TheVariants.{Unknown, Unreadable, Card, Tone, Memory}
 use Rattle.scripts.specs.declared.commands.CardCall.{CardCall as Asked}
 use Rattle.scripts.specs.declared.commands.CardCall.TheVariants as asked
+use Rattle.scripts.specs.declared.commands.FileCall.{FileCall}
+use Rattle.scripts.specs.declared.commands.FileCall.TheVariants.{Write, Save, Load}
 use Rattle.scripts.specs.declared.commands.Opening.{Opening}
 use Rattle.scripts.specs.declared.commands.Patch.{Patch as Rectangle}
 use Rattle.rehearse.specs.Rooms.{room_of}
-use Rattle.scripts.specs.Rows.{NotRead, RowsWritten, relief_shown, rows_text}
+use Rattle.scripts.specs.Rows.{NotRead, RowsWritten, relief_shown, rows_text, spaced}
 use Rattle.scripts.specs.Scripted.{Scripted}
 use Rattle.tones.specs.declared.refusals.ToneRefusal.{ToneRefusal}
 
@@ -136,6 +139,42 @@ AnswersResidue W s n r = ((m : AllocError) × (r ≡ Err (Memory m)))
     ⊎ ((x : Result (Unit {0}) Fault) × (reliefs : List ℤ)
     × W.residues s.notes s.memory (replicate n (pos 0)) x reliefs × ReliefsAnswered x reliefs r)
 
+-- a file of a card is made in so many bytes: as many of them as a write answers
+abbrev pub FileMade : {R : Type 0} → Scripted R → State R → ℕ → List ℕ → Type 0
+FileMade W s room file = (n : ℕ) × (bytes : List ℕ)
+    × W.writes s (replicate room 0) (Ok n) bytes × (file ≡ take n bytes)
+
+-- none is made: the write is refused, or there was no memory for it
+abbrev pub NoFile : {R : Type 0} → Scripted R → State R → ℕ → Fault → Type 0
+NoFile W s room f = ((m : AllocError) × (f ≡ Memory m))
+    ⊎ ((bytes : List ℕ) × W.writes s (replicate room 0) (Err f) bytes)
+
+-- a call that wants the file of a card, made in so many bytes: it is answered so, or by why there
+-- is none
+abbrev pub OfFile : {R : Type 0} → Scripted R → State R → ℕ
+    → (List ℕ → Result Answer Fault → Type 0) → Result Answer Fault → Type 0
+OfFile W s room answered r = ((f : Fault) × (r ≡ Err f) × NoFile W s room f)
+    ⊎ ((file : List ℕ) × FileMade W s room file × answered file r)
+
+-- a file is answered by its length and its bytes
+abbrev pub FileAnswered : List ℕ → Result Answer Fault → Type 0
+FileAnswered file r = MatchResult r
+    (λ a. (t : String Global) × (a ≡ answer.File (length file) t)
+    × (string_bytes t ≡ rows_text spaced file))
+    (λ f. (m : AllocError) × (f ≡ Memory m))
+
+-- a write into so many bytes
+abbrev pub AnswersWrite : {R : Type 0} → Scripted R → State R → ℕ → Result Answer Fault → Type 0
+AnswersWrite W s room r = OfFile W s room FileAnswered r
+
+-- a file that is saved is answered by its length, unless its path cannot be written
+abbrev pub SavedAnswered : List ℕ → Result Answer Fault → Type 0
+SavedAnswered file r = (r ≡ Ok (answer.Counted (length file))) ⊎ (r ≡ Err Unreadable)
+
+-- a save, made in as many bytes as the longest file has
+abbrev pub Saves : {R : Type 0} → Scripted R → State R → Result Answer Fault → Type 0
+Saves W s r = OfFile W s LONGEST_FILE SavedAnswered r
+
 -- the answer of a load
 abbrev pub answer_of_load : Result (Unit {0}) Fault → Result Answer Fault
 answer_of_load (Ok _) = Ok answer.Done
@@ -158,6 +197,14 @@ abbrev pub AnswersTone : {T R : Type 0} → Kind T R → Scripted R → Rest
 AnswersTone {T} {R} K W ws r = ((r ≡ Err Unknown) × ((row : R) → W.written ws row → ⊥))
     ⊎ ((row : R) × (x : Result T ToneRefusal) × W.written ws row × ToneAnswered K row x r)
 
+-- a call that makes a file or takes one, with what is read of it, is answered, and leaves a card
+-- with its memory
+abbrev pub Filed : {R : Type 0} → Scripted R → State R
+    → FileCall → Result Answer Fault → State R → Type 0
+Filed W s (Write room) r t = AnswersWrite W s room r × (t ≡ s)
+Filed W s (Save path) r t = Saves W s r × (t ≡ s)
+Filed W s (Load x y path) r t = (file : Option (List ℕ)) × LoadsFile W s x y file r t
+
 -- the present draft after a call: an install hands it over
 abbrev pub draft_after : Asked → Option Draft → Option Draft
 draft_after asked.Install draft = None
@@ -166,8 +213,8 @@ draft_after call draft = draft
 -- what a player's calls go by: the kind of its tones, what it is in scripts, the row by default,
 -- and the range of the card's selector
 module _ {T R : Type 0} (K : Kind T R) (W : Scripted R) (Zero : R → Type 0) (range : ℕ) where
-  -- the call that a command asks for is made on the card, with the present draft, or with what is
-  -- read of a file; it is answered, and leaves a card with its memory and the number of its pixels
+  -- the call that a command asks for is made on the card, with the present draft; it is answered,
+  -- and leaves a card with its memory and the number of its pixels
   abbrev pub Made : State R → ℕ → Option Draft → Asked → Result Answer Fault → State R → ℕ → Type 0
   Made s n draft (asked.Open o rows) r t m =
       Opens K W Zero range s o rows.now r t × (m ≡ area_after r o n)
@@ -180,6 +227,4 @@ module _ {T R : Type 0} (K : Kind T R) (W : Scripted R) (Zero : R → Type 0) (r
   Made s n draft asked.Due r t m =
       (a : Answer) × (r ≡ Ok a) × AnswersDue K s a × (t ≡ s) × (m ≡ n)
   Made s n draft asked.Residue r t m = AnswersResidue W s n r × (t ≡ s) × (m ≡ n)
-  Made s n draft (asked.Load x y path) r t m =
-      (file : Option (List ℕ)) × LoadsFile W s x y file r t × (m ≡ n)
   Made s n draft (asked.Tone parts) r t m = AnswersTone K W parts.now r × (t ≡ s) × (m ≡ n)

@@ -12,11 +12,11 @@ use Rattle.scripts.specs.declared.answers.Answer.{Answer}
 use Rattle.scripts.specs.declared.answers.Fault.{Fault}
 use Rattle.scripts.specs.declared.answers.Fault.TheVariants.{Unknown}
 use Rattle.scripts.specs.declared.commands.Command.{Command}
-use Rattle.scripts.specs.declared.commands.Command.TheVariants.{Choose, OnElement, OnDraft, OnCard, OnSelector}
+use Rattle.scripts.specs.declared.commands.Command.TheVariants.{Choose, OnElement, OnDraft, OnCard, OnFile, OnSelector}
 use Rattle.scripts.specs.declared.workspace.Workspace.{Workspace}
 use Rattle.std.specs.Str.{IsUtf8}
 use Rattle.rehearse.specs.Cuts.{CutInto, is_comment}
-use Rattle.rehearse.specs.Plays.{Made, Ranks, draft_after}
+use Rattle.rehearse.specs.Plays.{Filed, Made, Ranks, draft_after}
 use Rattle.rehearse.specs.Seen.{Seen, stands}
 use Rattle.scripts.specs.Scripted.{Scripted}
 use Rattle.rehearse.specs.declared.session.Line.{Line}
@@ -47,6 +47,8 @@ module _ {T R S : Type 0} (K : Kind T R) (W : Scripted R) (Zero : R → Type 0)
       × (q.card ≡ p.card) × (q.memory ≡ p.memory) × (q.area ≡ p.area)
       × Ranks (weight p.own) (range p.own) call r
       × ((c : ℕ) → weight q.own c ≡ bag_after (weight p.own) (range p.own) call c)
+  Commanded p d (OnFile call) r q e = (e ≡ d) × (q.own ≡ p.own) × (q.area ≡ p.area)
+      × Filed W (stands weight p) call r (stands weight q)
   Commanded p d (OnCard call) r q e = (q.own ≡ p.own)
       × (e.element ≡ d.element) × (e.draft ≡ draft_after call d.draft)
       × Made K W Zero (range (selector_of p.card)) (stands weight p) p.area d.draft call r

@@ -32,11 +32,14 @@ Plays a script of calls on a card, one command a line, and prints every answer:
   patch X Y W H ROWS..          letters a rectangle    load X Y PATH      a raw PGM file (grey cards)
   work B                        redoes at most B rows
   row X Y N                     hands out N tones      residue            raw minus finished (grey cards)
+  write ROOM                    the card as a PGM file, into ROOM bytes (grey cards)
+  save PATH                     writes that file to a path (grey cards)
   left, due                     stale rows; the next stage and row
   tone PARTS                    the code of a tone     put, total, select, empty   a selector alone
 
 Empty lines and comments, which begin with `#`, are passed over. A line that is no command
-prints `unknown`, a `load` whose file cannot be read `unreadable`.
+prints `unknown`; a `load` whose file cannot be read, and a `save` whose path cannot be written,
+`unreadable`.
 ";
 
 /// A session on a card of these tones, with the selector that is chosen.

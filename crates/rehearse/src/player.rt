@@ -1,13 +1,13 @@
 //! A card with its memory, and a selector of the program's own, on which calls are played.
 
 ghost use Rattle.std.specs.Option.{option_map};
-ghost use Rattle.std.specs.Prelude.{◌≡◌, ℕ, [], IfOk, None};
+ghost use Rattle.std.specs.Prelude.{◌≡◌, ℕ, [], IfOk, MatchResult, None};
 ghost use Rattle.calls.specs.Calls.Answer.{Number};
 ghost use Rattle.calls.specs.Calls.Call.{Left};
 ghost use Rattle.calls.specs.Outcomes.{Outcome};
 ghost use Rattle.cards.specs.Meanings.{InOrder, notes, selector_of};
 ghost use Rattle.rehearse.specs.Seen.{Seen, stands};
-ghost use Rattle.rehearse.specs.Plays.{AnswersDue, AnswersLeft, AnswersResidue, AnswersRow, AnswersTone, HandsOver, LoadsFile, Opens, Patches, Ranks, Works, area_after, memory_for};
+ghost use Rattle.rehearse.specs.Plays.{AnswersDue, AnswersLeft, AnswersResidue, AnswersRow, AnswersTone, AnswersWrite, FileMade, HandsOver, LoadsFile, NoFile, Opens, Patches, Ranks, Works, area_after, memory_for};
 ghost use Rattle.rehearse.specs.Rooms.{room_of};
 ghost use Rattle.selectors.specs.Played.{bag_after};
 
@@ -20,7 +20,7 @@ use selectors::Selector;
 use selectors::calls::{SelectorCall, play};
 use std::alloc::{AllocError, Global};
 use std::marker::Model;
-use tones::{Relief, Tone};
+use tones::{Grey, Relief, Tone};
 
 /// The card, its memory, the number of pixels of the card, and the selector.
 #[derive(Drop)]
@@ -196,6 +196,27 @@ impl<T: Rows, S: Selector> Player<T, S> {
         let mut reliefs = vec![in heap; 0i16; self.area]?;
         T::residue(&self.card, self.memory.as_slice(), reliefs.as_mut_slice())?;
         Ok(Answer::Rows(rows_shown::<Relief>(heap, reliefs.as_slice())?))
+    }
+
+    /// The card's file, made in so many lent bytes; not read where the kind has no files.
+    pub fn file(&self, heap: Global, room: usize) -> Result<Vec<u8>, Fault>
+        ensures { let at = stands S.weight self.now in
+            MatchResult result (λ file. FileMade T.Rows.scripted at room file.items)
+            (NoFile T.Rows.scripted at room) }
+    {
+        let mut file = vec![in heap; 0u8; room]?;
+        let taken = T::write(&self.card, self.memory.as_slice(), file.as_mut_slice())?;
+        file.truncate(taken);
+        Ok(file)
+    }
+
+    /// Tells the card's file, made in so many lent bytes.
+    pub fn write(&self, heap: Global, room: usize) -> Result<Answer, Fault>
+        ensures { AnswersWrite T.Rows.scripted (stands S.weight self.now) room result }
+    {
+        let file = self.file(heap, room)?;
+        let bytes = rows_shown::<Grey>(heap, file.as_slice())?;
+        Ok(Answer::File(file.len() as u64, bytes))
     }
 
     /// Patches the card with a file; unreadable without one, not read where the kind has no files.

@@ -4,16 +4,19 @@ ghost use Rattle.cards.specs.Meanings.{selector_of};
 ghost use Rattle.std.specs.Prelude.{◌≡◌, IfErr, IfOk};
 ghost use Rattle.rehearse.specs.Seen.{stands};
 ghost use Rattle.scripts.specs.Answers.{first_after, played_after, refused_after, unknown_after};
-ghost use Rattle.rehearse.specs.Plays.{Made, draft_after};
+ghost use Rattle.rehearse.specs.Plays.{Filed, Made, Saves, draft_after};
 ghost use Rattle.rehearse.specs.Sessions.{LinePlayed, Played};
 
 use crate::player::Player;
 use crate::script::{Script, bytes_of, words_of};
-use scripts::{Answer, CardCall, Choice, Command, Fault, Rows, Tally, Workspace, read_command};
+use cards::LONGEST_FILE;
+use scripts::{
+    Answer, CardCall, Choice, Command, Fault, FileCall, Rows, Tally, Workspace, read_command,
+};
 use selectors::Selector;
 use std::alloc::AllocError;
-use std::io;
 use std::ops::ControlFlow;
+use std::{fs, io};
 
 /// What stays from card to card.
 #[derive(Drop)]
@@ -80,8 +83,37 @@ fn call<T: Rows, S: Selector>(
         CardCall::Left => Ok(player.answer_left()),
         CardCall::Due => Ok(player.answer_due()),
         CardCall::Residue => player.residue(heap),
-        CardCall::Load(x, y, path) => player.load(x, y, bytes_of(rt, path)),
         CardCall::Tone(parts) => player.tone(parts),
+    }
+}
+
+/// Saves the card's file at a path, over what is there; unreadable where that cannot be done.
+fn save<T: Rows, S: Selector>(
+    rt: &HostRuntime,
+    player: &Player<T, S>,
+    path: &str,
+) -> Result<Answer, Fault>
+    ensures { Saves T.Rows.scripted (stands S.weight player.now) result }
+{
+    let file = player.file(rt.alloc(), LONGEST_FILE)?;
+    fs::write(rt, path, file.as_slice()).map_err(|_| Fault::Unreadable)?;
+    Ok(Answer::Counted(file.len() as u64))
+}
+
+/// Makes the call that makes a file of the card or takes one.
+fn file_call<T: Rows, S: Selector>(
+    rt: &HostRuntime,
+    player: &mut Player<T, S>,
+    call: FileCall,
+) -> Result<Answer, Fault>
+    ensures made { Filed T.Rows.scripted (stands S.weight player.old) call.entry result
+        (stands S.weight player.new) }
+    ensures kept { (player.new.area ≡ player.old.area) × (player.new.own ≡ player.old.own) }
+{
+    match call {
+        FileCall::Write(room) => player.write(rt.alloc(), room),
+        FileCall::Save(path) => save(rt, player, path),
+        FileCall::Load(x, y, path) => player.load(x, y, bytes_of(rt, path)),
     }
 }
 
@@ -106,6 +138,7 @@ fn play<T: Rows, S: Selector>(
         Command::OnElement(edit) => Line::Answered(workspace.edit(edit)),
         Command::OnDraft(drafting) => Line::Answered(workspace.draft(drafting)),
         Command::OnSelector(asked) => Line::Answered(player.ranks(asked)),
+        Command::OnFile(asked) => Line::Answered(file_call(rt, player, asked)),
         Command::OnCard(asked) => Line::Answered(call(rt, player, workspace, asked)),
     }
 }

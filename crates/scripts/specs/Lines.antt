@@ -13,9 +13,12 @@ use Rattle.scripts.specs.declared.commands.Edit.TheVariants.{Element, Place, Amo
 use Rattle.scripts.specs.declared.commands.Drafting.{Drafting}
 use Rattle.scripts.specs.declared.commands.Drafting.TheVariants.{Begin, Step}
 use Rattle.scripts.specs.declared.commands.CardCall.{CardCall}
-use Rattle.scripts.specs.declared.commands.CardCall.TheVariants.{Open, Install, Patch, Work, Row, Left, Due, Residue, Load, Tone}
+use Rattle.scripts.specs.declared.commands.CardCall.TheVariants.{Open, Install, Patch, Work, Row, Left, Due, Residue, Tone}
+use Rattle.scripts.specs.declared.commands.FileCall.{FileCall}
+use Rattle.scripts.specs.declared.commands.FileCall.TheVariants.{Write, Save, Load}
+use Rattle.scripts.specs.declared.commands.TheConstants.{MOST_ROOM}
 use Rattle.scripts.specs.declared.commands.Command.{Command}
-use Rattle.scripts.specs.declared.commands.Command.TheVariants.{Choose, OnElement, OnDraft, OnCard, OnSelector}
+use Rattle.scripts.specs.declared.commands.Command.TheVariants.{Choose, OnElement, OnDraft, OnCard, OnFile, OnSelector}
 
 -- a name with so many words after it
 abbrev pub Named : List ℕ → Rest → List ℕ → ℕ → Type 0
@@ -46,8 +49,7 @@ abbrev pub Drafts : List ℕ → Rest → Drafting → Type 0
 Drafts name ws (Begin n) = Named name ws (codes "begin") 1 × Natural 64 (word ws 0) n
 Drafts name ws (Step l) = Named name ws (codes "step") 1 × IsScalar l × (word ws 0 ≡ encode_utf8 l)
 
--- a call on a card: the words of the rows of open and patch, of the parts of a tone, and the path
--- of a file come last
+-- a call on a card: the words of the rows of open and patch, and of the parts of a tone come last
 abbrev pub Calls : List ℕ → Rest → CardCall → Type 0
 Calls name ws (Open o rows) = Begins name ws (codes "open") 3
     × Natural 64 (word ws 0) o.width × Natural 64 (word ws 1) o.height
@@ -62,9 +64,18 @@ Calls name ws (Row x y n) = Named name ws (codes "row") 3
 Calls name ws Left = Named name ws (codes "left") 0
 Calls name ws Due = Named name ws (codes "due") 0
 Calls name ws Residue = Named name ws (codes "residue") 0
-Calls name ws (Load x y path) = Named name ws (codes "load") 3
-    × Natural 64 (word ws 0) x × Natural 64 (word ws 1) y × (path.now ≡ word ws 2)
 Calls name ws (Tone parts) = (name ≡ codes "tone") × (parts.now ≡ ws)
+
+-- a word writes how many bytes are lent, no more than the most
+abbrev pub IsRoom : List ℕ → ℕ → Type 0
+IsRoom w n = Natural 64 w n × (n ≤ MOST_ROOM)
+
+-- a call that makes a file or takes one: its path comes last
+abbrev pub Files : List ℕ → Rest → FileCall → Type 0
+Files name ws (Write room) = Named name ws (codes "write") 1 × IsRoom (word ws 0) room
+Files name ws (Save path) = Named name ws (codes "save") 1 × (path.now ≡ word ws 0)
+Files name ws (Load x y path) = Named name ws (codes "load") 3
+    × Natural 64 (word ws 0) x × Natural 64 (word ws 1) y × (path.now ≡ word ws 2)
 
 -- a call on a selector
 abbrev pub Ranks : List ℕ → Rest → SelectorCall → Type 0
@@ -80,4 +91,5 @@ Says name ws (Choose c) = Chooses name ws c
 Says name ws (OnElement e) = Edits name ws e
 Says name ws (OnDraft d) = Drafts name ws d
 Says name ws (OnCard c) = Calls name ws c
+Says name ws (OnFile f) = Files name ws f
 Says name ws (OnSelector r) = Ranks name ws r

@@ -13,5 +13,7 @@ pub record Scripted (R : Type 0) : Type 1 where
   pub shown : R → List ℕ
   -- what a residue of a card answers, and what it leaves in the reliefs
   pub residues : Option Notes → List R → List ℤ → Result (Unit {0}) Fault → List ℤ → Type 0
+  -- what a write of a card into lent bytes answers, and what it leaves in them
+  pub writes : State R → List ℕ → Result ℕ Fault → List ℕ → Type 0
   -- what a load answers, of a file or where none was read, and the card with its memory after it
   pub loads : State R → ℕ → ℕ → Option (List ℕ) → Result (Unit {0}) Fault → State R → Type 0

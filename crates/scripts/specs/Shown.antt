@@ -24,6 +24,7 @@ abbrev pub answer_line : Answer → List ℕ
 answer_line answer.Done = codes "ok"
 answer_line (answer.Counted n) = codes "ok " ++ decimal n
 answer_line (answer.Rows t) = codes "ok" ++ string_bytes t
+answer_line (answer.File n t) = codes "ok " ++ decimal n ++ string_bytes t
 answer_line (answer.Number n) = decimal n
 answer_line (answer.Due d) = due_line d
 

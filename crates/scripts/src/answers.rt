@@ -22,6 +22,8 @@ pub enum Answer {
     Counted(u64),
     /// It was accepted, with rows, each after a space.
     Rows(String),
+    /// It was accepted, with a number, and as many bytes as numbers, each after a space.
+    File(u64, String),
     /// A number that is never refused.
     Number(u64),
     /// The stage and the row that are redone next, if there are any.
@@ -48,6 +50,7 @@ impl fmt::Display for Answer {
             Answer::Done => write!(f, "ok"),
             Answer::Counted(number) => write!(f, "ok {number}"),
             Answer::Rows(rows) => write!(f, "ok{rows}"),
+            Answer::File(number, bytes) => write!(f, "ok {number}{bytes}"),
             Answer::Number(number) => write!(f, "{number}"),
             Answer::Due(Some((stage, row))) => write!(f, "{stage} {row}"),
             Answer::Due(None) => write!(f, "nothing"),
@@ -60,7 +63,7 @@ impl fmt::Display for Answer {
 pub enum Fault {
     /// The line was not read.
     Unknown,
-    /// The file was not read.
+    /// The file was not read, or not written.
     Unreadable,
     /// A call on the element was refused.
     Element(ElementRefusal),

@@ -100,10 +100,22 @@ pub enum CardCall<'a> {
     Left,
     Due,
     Residue,
-    /// The corner, and the path of the file.
-    Load(usize, usize, &'a str),
     /// Making a tone of the parts that these words write.
     Tone(&'a [&'a str]),
+}
+
+/// The most bytes that a `write` lends.
+pub const MOST_ROOM: usize = 1_048_576;
+
+/// A call on the present card that makes a file or takes one; only grey cards have them.
+#[derive(Clone, Copy)]
+pub enum FileCall<'a> {
+    /// How many bytes are lent.
+    Write(usize),
+    /// The path of the file.
+    Save(&'a str),
+    /// The corner, and the path of the file.
+    Load(usize, usize, &'a str),
 }
 
 /// A line of a script.
@@ -113,5 +125,6 @@ pub enum Command<'a> {
     OnElement(Edit),
     OnDraft(Drafting),
     OnCard(CardCall<'a>),
+    OnFile(FileCall<'a>),
     OnSelector(SelectorCall),
 }

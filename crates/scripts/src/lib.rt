@@ -12,7 +12,7 @@ pub mod words;
 pub mod workspace;
 
 pub use answers::{Answer, Fault};
-pub use commands::{CardCall, Choice, Command, Opening, Patch, Tones};
+pub use commands::{CardCall, Choice, Command, FileCall, Opening, Patch, Tones};
 pub use lists::{rows_read, rows_shown};
 pub use reading::read_command;
 pub use rows::Rows;

@@ -1,9 +1,11 @@
 //! Reads the words of a line: its name, and the rest.
 
-ghost use Rattle.scripts.specs.Lines.{Calls, Chooses, Drafts, Edits, Ranks, Says};
+ghost use Rattle.scripts.specs.Lines.{Calls, Chooses, Drafts, Edits, Files, IsRoom, Ranks, Says};
 ghost use Rattle.scripts.specs.Words.{ReadsAll};
 
-use crate::commands::{CardCall, Choice, Command, Drafting, Edit, Opening, Patch};
+use crate::commands::{
+    CardCall, Choice, Command, Drafting, Edit, FileCall, MOST_ROOM, Opening, Patch,
+};
 use crate::words::number;
 use selectors::calls::SelectorCall;
 
@@ -93,8 +95,30 @@ pub fn read_call<'a>(name: &str, rest: &'a [&'a str]) -> Option<CardCall<'a>>
         ("left", []) => Some(CardCall::Left),
         ("due", []) => Some(CardCall::Due),
         ("residue", []) => Some(CardCall::Residue),
-        ("load", [x, y, path]) => Some(CardCall::Load(number(x)?, number(y)?, path)),
         ("tone", parts) => Some(CardCall::Tone(parts)),
+        _ => None,
+    }
+}
+
+/// How many bytes are to be lent; no more than the most.
+pub fn read_room(word: &str) -> Option<usize>
+    ensures { ReadsAll (IsRoom word.now) result }
+{
+    let room = number(word)?;
+    if room > MOST_ROOM {
+        return None;
+    }
+    Some(room)
+}
+
+/// The call that makes a file or takes one.
+pub fn read_file_call<'a>(name: &str, rest: &'a [&'a str]) -> Option<FileCall<'a>>
+    ensures { ReadsAll (Files name.now rest.now) result }
+{
+    match (name, rest) {
+        ("write", [room]) => Some(FileCall::Write(read_room(room)?)),
+        ("save", [path]) => Some(FileCall::Save(path)),
+        ("load", [x, y, path]) => Some(FileCall::Load(number(x)?, number(y)?, path)),
         _ => None,
     }
 }
@@ -115,6 +139,9 @@ pub fn read_command<'a>(name: &str, rest: &'a [&'a str]) -> Option<Command<'a>>
     }
     if let Some(call) = read_selector_call(name, rest) {
         return Some(Command::OnSelector(call));
+    }
+    if let Some(call) = read_file_call(name, rest) {
+        return Some(Command::OnFile(call));
     }
     read_call(name, rest).map(Command::OnCard)
 }

@@ -5,7 +5,7 @@ ghost use Rattle.std.specs.Prelude.{◌≡◌, ◌≢◌, ◌++◌, IfOk, MatchR
 ghost use Rattle.cards.specs.Meanings.{InOrder, notes, state_of};
 ghost use Rattle.scripts.specs.Words.{ReadsAll};
 ghost use Rattle.std.proofs.Common.{rules};
-ghost use Rattle.scripts.specs.Cards.{GreyLoad, GreyResidue, NoLoad, NoResidue};
+ghost use Rattle.scripts.specs.Cards.{GreyLoad, GreyResidue, GreyWrite, NoLoad, NoResidue, NoWrite};
 ghost use Rattle.scripts.specs.Scripted.{Scripted};
 ghost use Rattle.scripts.specs.Rows.{ColourWritten, GreyWritten, HasParts, MarkWritten, ReadsOnly, ReliefWritten, colour_shown, mark_shown, relief_shown, spaced};
 
@@ -49,6 +49,15 @@ pub trait Rows: Tone<Row: Default> {
     ) -> Result<(), Fault>
         ensures { scripted.residues (notes card.now) memory.now reliefs.old result reliefs.new };
 
+    /// Writes a card as a file into the lent bytes; not read where the kind has no files.
+    fn write<S: Selector>(
+        card: &Card<Self, S>,
+        memory: &[Self::Row],
+        file: &mut [u8],
+    ) -> Result<usize, Fault>
+        ensures { let at = state_of S.weight card.now memory.now in
+            scripted.writes at file.old result file.new };
+
     /// Patches a card with a file; not read where the kind has no files, unreadable where there is none.
     fn load<S: Selector>(
         card: &mut Card<Self, S>,
@@ -73,6 +82,7 @@ impl Rows for Mark {
       count = 1;
       shown = mark_shown;
       residues = NoResidue;
+      writes = NoWrite;
       loads = NoLoad;
     } };
 
@@ -106,6 +116,14 @@ impl Rows for Mark {
         Err(Fault::Unknown)
     }
 
+    fn write<S: Selector>(
+        _card: &Card<Mark, S>,
+        _memory: &[bool],
+        _file: &mut [u8],
+    ) -> Result<usize, Fault> {
+        Err(Fault::Unknown)
+    }
+
     fn load<S: Selector>(
         _card: &mut Card<Mark, S>,
         _memory: &mut [bool],
@@ -135,6 +153,7 @@ impl Rows for Grey {
       count = 1;
       shown = spaced;
       residues = GreyResidue;
+      writes = GreyWrite;
       loads = GreyLoad;
     } };
 
@@ -164,6 +183,14 @@ impl Rows for Grey {
         Ok(card.residue(memory, reliefs)?)
     }
 
+    fn write<S: Selector>(
+        card: &Card<Grey, S>,
+        memory: &[u8],
+        file: &mut [u8],
+    ) -> Result<usize, Fault> {
+        Ok(card.write(memory, file)?)
+    }
+
     fn load<S: Selector>(
         card: &mut Card<Grey, S>,
         memory: &mut [u8],
@@ -182,6 +209,7 @@ impl Rows for Relief {
       count = 1;
       shown = relief_shown;
       residues = NoResidue;
+      writes = NoWrite;
       loads = NoLoad;
     } };
 
@@ -211,6 +239,14 @@ impl Rows for Relief {
         Err(Fault::Unknown)
     }
 
+    fn write<S: Selector>(
+        _card: &Card<Relief, S>,
+        _memory: &[i16],
+        _file: &mut [u8],
+    ) -> Result<usize, Fault> {
+        Err(Fault::Unknown)
+    }
+
     fn load<S: Selector>(
         _card: &mut Card<Relief, S>,
         _memory: &mut [i16],
@@ -228,6 +264,7 @@ impl Rows for Colour {
       count = 3;
       shown = colour_shown;
       residues = NoResidue;
+      writes = NoWrite;
       loads = NoLoad;
     } };
 
@@ -261,6 +298,14 @@ impl Rows for Colour {
         _memory: &[ColourRow],
         _reliefs: &mut [i16],
     ) -> Result<(), Fault> {
+        Err(Fault::Unknown)
+    }
+
+    fn write<S: Selector>(
+        _card: &Card<Colour, S>,
+        _memory: &[ColourRow],
+        _file: &mut [u8],
+    ) -> Result<usize, Fault> {
         Err(Fault::Unknown)
     }
 
