@@ -100,7 +100,7 @@ pub fn read_call<'a>(name: &str, rest: &'a [&'a str]) -> Option<CardCall<'a>>
     }
 }
 
-/// How many bytes are to be lent; no more than the most.
+/// How many bytes a word asks to be lent; not read above `MOST_ROOM`.
 pub fn read_room(word: &str) -> Option<usize>
     ensures { ReadsAll (IsRoom word.now) result }
 {
