@@ -139,6 +139,9 @@ one_file w h v k greys others p q = (
   same_file w h v k greys others,
 )
 
+-- what a writer promises of pictures
+pub ruleset pictures_written = (one_file, reads_back, short_header)
+
 -- a file that is written of a size is read as no other picture, whatever its greys are
 abbrev end_of : Result Header HeaderFault → ℕ
 end_of (Ok h) = h.end

@@ -29,6 +29,7 @@ fn header(width: usize, height: usize) -> ArrayString<49>
 /// The header takes at most `LONGEST_HEADER` bytes for a picture of at most 1,024 × 256 greys. Of such a picture,
 /// with as many greys as pixels, `read` makes the same again (`reads_back`), and no other picture has this file
 /// (`one_file`).
+#[tactic(auto, using(crate::proofs::Writing::pictures_written))]
 pub fn write(width: usize, height: usize, greys: &[u8], file: &mut [u8]) -> Option<usize>
     ensures answer { result ≡ taken_by (raw_file width height greys.now) (length file.old) }
     ensures file { file.new ≡ filled_with (raw_file width height greys.now) file.old }
